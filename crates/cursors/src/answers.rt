@@ -22,7 +22,8 @@ pub fn degree(shard: Option<&Shard>, vertex: u64) -> u32
 /// How many vertices in a row have no neighbours, from one on, of those whose lists stand in its shard. A vertex outside counts
 /// for none.
 pub fn edgeless_from(shard: Option<&Shard>, vertex: u64) -> u32
-    ensures { (g : Graph) → IsShardOf g vertex shard.entry → (k : ℕ) → k < result → length (neighbours g (vertex + k)) ≡ 0 }
+    ensures { (g : Graph) → IsShardOf g vertex shard.entry → (k : ℕ) → k < result → length (neighbours g (vertex + k))
+        ≡ 0 }
 {
     match place_of(shard, vertex) {
         Some((shard, place)) => shard.edgeless_from(place),

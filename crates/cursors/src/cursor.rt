@@ -8,7 +8,7 @@ ghost use Rattle.shards.specs.Part.{row_at};
 ghost use Rattle.shard_table.specs.Table.{IsShardOf};
 
 use crate::place::place_of;
-use shards::Shard;
+use shards::{Shard, Targets};
 use std::marker::Model;
 
 /// A vertex's neighbours, lent in slices. A slice lives as long as the shards, and not as long as the
@@ -16,32 +16,33 @@ use std::marker::Model;
 #[derive(Drop)]
 pub struct Cursor<'a> {
     // None is the cursor of a vertex outside, and one that has reported its end.
-    shard: Option<&'a Shard>,
-    vertex: u8,
-    place: u32,
+    targets: Option<Targets<'a>>,
 }
 
 impl<'a> Model for Cursor<'a> {
     ghost use Rattle.std.specs.Prelude.{List, ℕ};
-    ghost use Rattle.cursors.specs.Cursor.{left_at, IsCursor};
+    ghost use Rattle.cursors.specs.Cursor.{left_of};
 
     ghost Value = { List ℕ };
 
-    ghost view = { λ c. left_at c.shard c.vertex c.place };
-
-    ghost invariant = { λ c. IsCursor c.shard c.vertex c.place };
+    ghost view = { λ c. left_of c.targets };
 }
 
 impl<'a> Cursor<'a> {
+    // Of no vertex.
+    fn of_none() -> Cursor<'a>
+        ensures { result ≡ [] }
+    {
+        Cursor { targets: None }
+    }
+
     /// The list of one vertex of a shard, where `vertex` counts from the range's first.
     pub fn of(shard: &'a Shard, vertex: u8) -> Cursor<'a>
         requires { vertex < length shard.now.rows }
         ensures { result ≡ row_at shard.now vertex }
     {
         Cursor {
-            shard: Some(shard),
-            vertex,
-            place: 0,
+            targets: Some(shard.targets(vertex)),
         }
     }
 
@@ -51,11 +52,7 @@ impl<'a> Cursor<'a> {
     {
         match place_of(shard, u64::from(vertex)) {
             Some((shard, place)) => Cursor::of(shard, place),
-            None => Cursor {
-                shard: None,
-                vertex: 0,
-                place: 0,
-            },
+            None => Cursor::of_none(),
         }
     }
 
@@ -66,16 +63,40 @@ impl<'a> Cursor<'a> {
         ensures small { length result ≤ MOST_VERTICES }
     {
         match place_of(shard, vertex) {
-            Some((shard, own)) => Cursor {
-                shard: Some(shard),
-                vertex: own,
-                place: first.min(u64::from(shard.degree(own))) as u32,
+            Some((shard, own)) => {
+                let targets = shard.targets(own);
+                let count = first.min(u64::from(targets.count()));
+                Cursor {
+                    targets: Some(targets.skip(count as u32)),
+                }
+            }
+            None => Cursor::of_none(),
+        }
+    }
+
+    /// How many neighbours are left.
+    pub fn left(&self) -> u32
+        ensures value { result ≡ length self.now }
+        ensures small { result ≤ MOST_VERTICES }
+    {
+        match &self.targets {
+            Some(targets) => targets.count(),
+            None => 0,
+        }
+    }
+
+    /// What is left after so many neighbours. If none is passed, nothing is looked at.
+    pub fn skip(self, count: u32) -> Cursor<'a>
+        ensures { result ≡ drop count self.entry }
+    {
+        if count == 0 {
+            return self;
+        }
+        match self.targets {
+            Some(targets) => Cursor {
+                targets: Some(targets.skip(count)),
             },
-            None => Cursor {
-                shard: None,
-                vertex: 0,
-                place: 0,
-            },
+            None => Cursor::of_none(),
         }
     }
 
@@ -98,14 +119,12 @@ impl<'a> Cursor<'a> {
             ((self.old ≡ []) × (self.new ≡ []))
             (λ slice. (0 < length slice.now) × (self.old ≡ slice.now ++ self.new)) }
     {
-        let shard: &'a Shard = self.shard?;
-        let slice = shard.lent_at(self.vertex, self.place);
-        if slice.is_empty() {
+        let targets = self.targets.as_mut()?;
+        let slice = targets.next_slice();
+        if slice.is_none() {
             // From now on the end is reported without a look at the list.
-            self.shard = None;
-            return None;
+            self.targets = None;
         }
-        self.place += slice.len() as u32;
-        Some(slice)
+        slice
     }
 }

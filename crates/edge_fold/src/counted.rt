@@ -74,7 +74,8 @@ fn fold_counted(
     requires short { length span.targets.now ≤ MOST_VERTICES }
     requires table { HoldsTable mapped.now.program.now.table memory.old.bytes }
     ensures value { let m = mapped.now in result.value
-        ≡ reduction_of_numbers reduction (span_numbers m.program.now (graph_of m.version.now) (inputs_of m) span.entry) }
+        ≡ reduction_of_numbers reduction (span_numbers m.program.now (graph_of m.version.now)
+        (inputs_of m) span.entry) }
     ensures count { let m = mapped.now in
         length (span_numbers m.program.now (graph_of m.version.now) (inputs_of m) span.entry)
         ≡ length span.entry.targets.now }
@@ -115,7 +116,8 @@ pub(crate) fn fold_part(
     requires short { length span.targets.now ≤ MOST_VERTICES }
     requires table { HoldsTable mapped.now.program.now.table memory.old.bytes }
     ensures value { let m = mapped.now in result.value
-        ≡ reduction_of_numbers reduction (span_numbers m.program.now (graph_of m.version.now) (inputs_of m) span.entry) }
+        ≡ reduction_of_numbers reduction (span_numbers m.program.now (graph_of m.version.now)
+        (inputs_of m) span.entry) }
     ensures count { let m = mapped.now in
         length (span_numbers m.program.now (graph_of m.version.now) (inputs_of m) span.entry)
         ≡ length span.entry.targets.now }

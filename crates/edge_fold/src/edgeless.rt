@@ -68,7 +68,8 @@ pub(crate) fn pass_edgeless(
     // They add no number.
     ensures numbers { let m = mapped.now in let p = m.program.now in let g = graph_of m.version.now in
         let f = request.now.frontier.now in
-        all_with p (longest p) g (inputs_of m) (take result f) ≡ all_with p (longest p) g (inputs_of m) (take places.start f) }
+        all_with p (longest p) g (inputs_of m) (take result f)
+        ≡ all_with p (longest p) g (inputs_of m) (take places.start f) }
     ensures values { let m = mapped.now in let p = m.program.now in let g = graph_of m.version.now in
         let of = values_for p (longest p) g request.now.reduction (inputs_of m) in let f = request.now.frontier.now in
         take places.start values.old ≡ of (take places.start f) → take result values.new ≡ of (take result f) }

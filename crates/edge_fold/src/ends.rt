@@ -85,7 +85,8 @@ pub(crate) fn gather_ends(edges: &mut Edges, columns: &[&[u64]])
     requires few { edges.old.count ≤ LANES }
     ensures end_count { edges.new.end_count ≡ 2 * length columns.now }
     ensures ends { (k : ℕ) → k < edges.old.count → take (2 * length columns.now) (row edges.new.ends k)
-        ≡ ends_of (map (λ column. column.now) columns.now) (slice_index edges.old.sources k) (slice_index edges.old.targets k) }
+        ≡ ends_of (map (λ column. column.now) columns.now) (slice_index edges.old.sources k)
+        (slice_index edges.old.targets k) }
     ensures count { edges.new.count ≡ edges.old.count }
     ensures sources { edges.new.sources ≡ edges.old.sources }
     ensures targets { edges.new.targets ≡ edges.old.targets }

@@ -73,9 +73,8 @@ fn gather(version: &Version, kept: &mut Kept, frontier: &[u32], least_alone: u32
     let mut count = 0usize;
     let mut looked = 0usize;
     'vertices: for vertex in frontier {
-        let neighbour_count = version.degree(u64::from(*vertex));
-        if are_few(neighbour_count, least_alone) {
-            let mut cursor = version.cursor(*vertex);
+        let mut cursor = version.cursor(*vertex);
+        if are_few(cursor.left(), least_alone) {
             let targets = cursor.next_slice().unwrap_or(&[]);
             if targets.len() > LANES - count {
                 break;

@@ -64,14 +64,15 @@ pub fn map_frontier(
     let mut looked = 0usize;
     for source in frontier {
         let vertex = *source;
-        let degree = mapped.version.degree(u64::from(vertex));
+        let targets = mapped.version.cursor(vertex);
+        let degree = targets.left();
         if seen >= looked && are_few(degree, least) {
             let left = frontier.get(seen..).unwrap_or(&[]);
             looked = seen.saturating_add(keep_next(mapped, memory, left, least));
         }
         seen = seen.wrapping_add(1);
         let source = Source { vertex, degree };
-        let value = fold_vertex(mapped, memory, reduction, source);
+        let value = fold_vertex(mapped, memory, reduction, source, targets);
         out.edges += u64::from(degree);
         out.total = combine(reduction, out.total, value);
         put_row(&mut out.rows, rows, Row { vertex, value }, degree)?;
@@ -91,7 +92,8 @@ pub fn map_whole(
     requires few { length request.now.frontier.now ≤ MOST_VERTICES }
     requires long { length values.old ≡ length request.now.frontier.now }
     requires memory { IsFor mapped.now.program.now memory.old }
-    ensures values { let m = mapped.now in let p = m.program.now in let g = graph_of m.version.now in let r = request.now in
+    ensures values { let m = mapped.now in let p = m.program.now in let g = graph_of m.version.now in
+        let r = request.now in
         values.new ≡ values_for p (longest p) g r.reduction (inputs_of m) r.frontier.now }
     ensures edges { let m = mapped.now in let p = m.program.now in let g = graph_of m.version.now in
         result.edges ≡ length (all_with p (longest p) g (inputs_of m) request.now.frontier.now) }
@@ -111,7 +113,8 @@ pub fn map_whole(
     let mut at = 0usize;
     'vertices: while at < frontier.len() {
         let vertex = frontier[at];
-        let degree = mapped.version.degree(u64::from(vertex));
+        let targets = mapped.version.cursor(vertex);
+        let degree = targets.left();
         if degree == 0 {
             at = pass_edgeless(mapped, request, values, at..frontier.len());
             continue;
@@ -121,7 +124,7 @@ pub fn map_whole(
             looked = at.saturating_add(keep_next(mapped, memory, left, least));
         }
         let source = Source { vertex, degree };
-        let value = fold_vertex(mapped, memory, reduction, source);
+        let value = fold_vertex(mapped, memory, reduction, source, targets);
         values[at] = value;
         edges += u64::from(degree);
         total = combine(reduction, total, value);

@@ -33,7 +33,8 @@ pub(crate) fn number_block(
     requires long { length numbers.old ≡ length span.targets.now }
     ensures count { result ≤ length span.entry.targets.now }
     ensures numbers { let m = mapped.now in numbers.new
-        ≡ first_numbers m.program.now (graph_of m.version.now) (inputs_of m) span.entry result ++ drop result numbers.old }
+        ≡ first_numbers m.program.now (graph_of m.version.now) (inputs_of m) span.entry result
+        ++ drop result numbers.old }
 {
     let count = LANES.min(span.targets.len());
     if count < LEAST_IN_BLOCK || !blocks.is_useful {
@@ -120,8 +121,8 @@ fn number_vertex(mapped: &Mapped<'_>, memory: &mut Memory, source: u32, numbers:
         numbers.new ≡ exits_with p (longest p) (graph_of m.version.now) (inputs_of m) source }
     ensures memory { IsFor mapped.now.program.now memory.new }
 {
-    let degree = mapped.version.degree(u64::from(source));
     let mut cursor = mapped.version.cursor(source);
+    let degree = cursor.left();
     let mut place = 0u32;
     'slices: while place < degree {
         let Some(targets) = cursor.next_slice() else {

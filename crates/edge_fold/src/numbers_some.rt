@@ -1,7 +1,7 @@
 //! The numbers of the next edges of a frontier, as far as a budget and the room go.
 ghost use Rattle.std.specs.Prelude.{◌≡◌, ◌+◌, ◌-◌, ◌*◌, ◌^◌, ◌%◌, ◌<◌, ◌≤◌, ◌⊎◌, ◌++◌, length, drop, take};
 ghost use Rattle.past_model.specs.declared.limits.TheConstants.{MOST_VERTICES};
-ghost use Rattle.graph_model.specs.Graph.{degree as degree_of};
+ghost use Rattle.graph_model.specs.Graph.{degree as degree_of, neighbours};
 ghost use Rattle.past_model.specs.Past.{graph_of};
 ghost use Rattle.map_model.specs.Parts.{IsPlace, IsBefore, numbers_before, cost_before};
 ghost use Rattle.verifier.specs.Walks.{longest};
@@ -16,7 +16,7 @@ use crate::counted::number_row;
 use crate::mapped::Mapped;
 use crate::memory::Memory;
 use crate::numbering::number_block;
-use crate::span::{Source, Span, neighbours_from};
+use crate::span::{Rest, Source, Span};
 use map_model::Progress;
 
 /// Writes the numbers of the first edges in a row, edge by edge, and answers how many: one at least, and as many as surely fit the
@@ -33,7 +33,8 @@ fn number_next(
     requires some { 0 < length span.targets.now }
     requires memory { IsFor mapped.now.program.now memory.old }
     ensures numbers { let m = mapped.now in numbers.new
-        ≡ first_numbers m.program.now (graph_of m.version.now) (inputs_of m) span.entry result ++ drop result numbers.old }
+        ≡ first_numbers m.program.now (graph_of m.version.now) (inputs_of m) span.entry result
+        ++ drop result numbers.old }
     ensures few { result ≤ length span.entry.targets.now }
     ensures some { 0 < result }
     ensures cost { memory.old.budget ≤ memory.new.budget + (longest mapped.now.program.now + EDGE_COST) * result }
@@ -66,7 +67,8 @@ fn number_round(
     requires some { 0 < length span.targets.now }
     requires memory { IsFor mapped.now.program.now memory.old }
     ensures numbers { let m = mapped.now in numbers.new
-        ≡ first_numbers m.program.now (graph_of m.version.now) (inputs_of m) span.entry result ++ drop result numbers.old }
+        ≡ first_numbers m.program.now (graph_of m.version.now) (inputs_of m) span.entry result
+        ++ drop result numbers.old }
     ensures few { result ≤ length span.entry.targets.now }
     ensures some { 0 < result }
     ensures cost { memory.old.budget ≤ memory.new.budget + (longest mapped.now.program.now + EDGE_COST) * result }
@@ -94,7 +96,8 @@ fn number_span_some(
     requires long { length numbers.old ≡ length span.targets.now }
     requires memory { IsFor mapped.now.program.now memory.old }
     ensures numbers { let m = mapped.now in numbers.new
-        ≡ first_numbers m.program.now (graph_of m.version.now) (inputs_of m) span.entry result ++ drop result numbers.old }
+        ≡ first_numbers m.program.now (graph_of m.version.now) (inputs_of m) span.entry result
+        ++ drop result numbers.old }
     ensures count { let m = mapped.now in
         length (first_numbers m.program.now (graph_of m.version.now) (inputs_of m) span.entry result) ≡ result }
     ensures few { result ≤ length span.entry.targets.now }
@@ -122,28 +125,37 @@ fn number_span_some(
 fn number_part(
     mapped: &Mapped<'_>,
     memory: &mut Memory,
-    source: Source,
-    place: u32,
+    rest: Rest<'_>,
     numbers: &mut [u64],
 ) -> usize
-    requires degree { source.degree ≡ degree_of (graph_of mapped.now.version.now) source.vertex }
-    requires small { source.degree ≤ MOST_VERTICES }
-    requires inside { place ≤ source.degree }
+    requires degree { rest.source.degree ≡ degree_of (graph_of mapped.now.version.now) rest.source.vertex }
+    requires small { rest.source.degree ≤ MOST_VERTICES }
+    requires inside { rest.place ≤ rest.source.degree }
+    requires neighbours { rest.neighbours ≡ drop rest.place (neighbours
+        (graph_of mapped.now.version.now) rest.source.vertex) }
     requires memory { IsFor mapped.now.program.now memory.old }
     ensures numbers { let m = mapped.now in numbers.new
-        ≡ exits_from m.program.now (graph_of m.version.now) (inputs_of m) source.vertex place result ++ drop result numbers.old }
+        ≡ exits_from m.program.now (graph_of m.version.now)
+        (inputs_of m) rest.entry.source.vertex rest.entry.place result ++ drop result numbers.old }
     ensures count { let m = mapped.now in
-        length (exits_from m.program.now (graph_of m.version.now) (inputs_of m) source.vertex place result) ≡ result }
+        length (exits_from m.program.now (graph_of m.version.now)
+        (inputs_of m) rest.entry.source.vertex rest.entry.place result) ≡ result }
     ensures room { result ≤ length numbers.old }
-    ensures few { place + result ≤ source.degree }
-    ensures some { place < source.degree → 0 < length numbers.old → 0 < result }
+    ensures few { rest.entry.place + result ≤ rest.entry.source.degree }
+    ensures some { rest.entry.place < rest.entry.source.degree → 0 < length numbers.old → 0 < result }
     ensures cost { memory.old.budget ≤ memory.new.budget + (longest mapped.now.program.now + EDGE_COST) * result }
     ensures falls { memory.new.budget ≤ memory.old.budget - EDGE_COST * result }
-    ensures stops { place + result < source.degree → (memory.new.budget ≡ 0) ⊎ (result ≡ length numbers.old) }
+    ensures stops { rest.entry.place + result < rest.entry.source.degree → (memory.new.budget ≡ 0)
+        ⊎ (result ≡ length numbers.old) }
     ensures memory { IsFor mapped.now.program.now memory.new }
 {
+    let Rest {
+        source,
+        place,
+        neighbours,
+    } = rest;
     let most = numbers.len().min((source.degree - place) as usize);
-    let mut cursor = neighbours_from(mapped.version, source.vertex, place);
+    let mut cursor = neighbours;
     let mut written = 0usize;
     let mut goes_on = true;
     'slices: while goes_on && written < most {
@@ -203,16 +215,16 @@ pub fn number_some(
     let mut goes_on = true;
     'vertices: while goes_on && (progress.vertex as usize) < frontier.len() {
         let vertex = frontier[progress.vertex as usize];
-        let degree = mapped.version.degree(u64::from(vertex));
-        let source = Source { vertex, degree };
+        let neighbours = mapped.version.cursor(vertex);
+        let degree = neighbours.left();
+        let place = progress.place;
+        let rest = Rest {
+            source: Source { vertex, degree },
+            place,
+            neighbours: neighbours.skip(place),
+        };
         memory.budget = progress.budget;
-        let count = number_part(
-            mapped,
-            memory,
-            source,
-            progress.place,
-            &mut numbers[written..],
-        );
+        let count = number_part(mapped, memory, rest, &mut numbers[written..]);
         written += count;
         progress.edges = progress.edges.wrapping_add(count as u64);
         progress.place += count as u32;

@@ -63,7 +63,8 @@ fn place_of(version: &Version, source: u32, target: u32) -> u32
 fn number_pair(mapped: &Mapped<'_>, memory: &mut Memory, source: u32, target: u32) -> u64
     requires memory { IsFor mapped.now.program.now memory.old }
     ensures number { let m = mapped.now in let p = m.program.now in let g = graph_of m.version.now in
-        number_for p (longest p) g (input_record g source target (place_in g source target) (inputs_of m)) ≡ Some result }
+        number_for p (longest p) g (input_record g source target (place_in g source target) (inputs_of m))
+        ≡ Some result }
     ensures cost { memory.old.budget ≤ memory.new.budget + (longest mapped.now.program.now + EDGE_COST) }
     ensures falls { memory.new.budget ≤ memory.old.budget - EDGE_COST }
     ensures memory { IsFor mapped.now.program.now memory.new }

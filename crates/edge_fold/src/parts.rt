@@ -18,7 +18,7 @@ use crate::mapped::{Mapped, Request};
 use crate::memory::Memory;
 use crate::reducing::{combine, nothing};
 use crate::some::{Part, fold_some};
-use crate::span::Source;
+use crate::span::{Rest, Source};
 use map_model::{Progress, Reduction};
 
 /// So many of the next vertices are looked at for a block that they share: those without neighbours are passed.
@@ -73,14 +73,16 @@ fn pass_some(
 ) -> bool
     requires few { length request.now.frontier.now ≤ MOST_VERTICES }
     requires inside { progress.old.vertex < length request.now.frontier.now }
-    requires none { degree_of (graph_of mapped.now.version.now) (slice_index request.now.frontier.now progress.old.vertex) ≡ 0 }
+    requires none { degree_of (graph_of mapped.now.version.now)
+        (slice_index request.now.frontier.now progress.old.vertex) ≡ 0 }
     requires long { length values.old ≡ length request.now.frontier.now }
     ensures on { progress.old.vertex < progress.new.vertex }
     ensures inside { progress.new.vertex ≤ length request.now.frontier.now }
     ensures place { progress.new.place ≡ progress.old.place }
     ensures edges { progress.new.edges ≡ progress.old.edges }
     ensures total { progress.new.total ≡ progress.old.total }
-    ensures budget { progress.new.budget ≡ progress.old.budget - VERTEX_COST * (progress.new.vertex - progress.old.vertex) }
+    ensures budget { progress.new.budget ≡ progress.old.budget - VERTEX_COST *
+        (progress.new.vertex - progress.old.vertex) }
     ensures left { result ≡ nat_lt 0 progress.new.budget }
     // They add no number.
     ensures numbers { let m = mapped.now in let p = m.program.now in
@@ -132,7 +134,8 @@ pub fn map_some(
     // The budget falls by no more than the bound and a constant for each edge, and a constant for each vertex; and by these
     // constants at least, as far as it goes.
     ensures cost { let m = mapped.now in let p = m.program.now in let g = graph_of m.version.now in
-        let f = request.now.frontier.now in let most = cost_before (longest p + EDGE_COST) VERTEX_COST p (longest p) g (inputs_of m) f in
+        let f = request.now.frontier.now in let most = cost_before (longest p + EDGE_COST) VERTEX_COST p (longest p) g
+        (inputs_of m) f in
         progress.old.budget + most progress.old ≤ progress.new.budget + most progress.new }
     ensures falls { let m = mapped.now in let p = m.program.now in let g = graph_of m.version.now in
         let least = cost_before EDGE_COST VERTEX_COST p (longest p) g (inputs_of m) request.now.frontier.now in
@@ -149,7 +152,8 @@ pub fn map_some(
     'vertices: while goes_on && (progress.vertex as usize) < frontier.len() {
         let at = progress.vertex as usize;
         let vertex = frontier[at];
-        let degree = mapped.version.degree(u64::from(vertex));
+        let neighbours = mapped.version.cursor(vertex);
+        let degree = neighbours.left();
         if degree == 0 {
             goes_on = pass_some(mapped, request, progress, values);
             continue;
@@ -159,9 +163,14 @@ pub fn map_some(
             let left = frontier.get(at..end).unwrap_or(&[]);
             looked = at.saturating_add(keep_next(mapped, memory, left, least));
         }
-        let source = Source { vertex, degree };
+        let place = progress.place;
+        let rest = Rest {
+            source: Source { vertex, degree },
+            place,
+            neighbours: neighbours.skip(place),
+        };
         memory.budget = progress.budget;
-        let part = fold_some(mapped, memory, request.reduction, source, progress.place);
+        let part = fold_some(mapped, memory, request.reduction, rest);
         values[at] = value_of(request.reduction, progress.place, values[at], part.value);
         add(progress, request.reduction, &part);
         progress.budget = memory.budget;

@@ -22,7 +22,7 @@ use crate::parts::{MOST_LOOKED, add, begin};
 use crate::reducing::{combine, nothing};
 use crate::rounds::push_round;
 use crate::some::Part;
-use crate::span::{Rest, Source, Span, neighbours_from};
+use crate::span::{Rest, Source, Span};
 use map_model::{Progress, Reduction};
 
 /// Pushes the numbers of the first edges in a row: one edge at least, and more as far as the budget goes. Each of them has a number.
@@ -82,37 +82,45 @@ fn push_vertex(
     mapped: &Mapped<'_>,
     memory: &mut Memory,
     reduction: Reduction,
-    rest: Rest,
+    rest: Rest<'_>,
     values: &mut [u64],
 ) -> Part
     requires degree { rest.source.degree ≡ degree_of (graph_of mapped.now.version.now) rest.source.vertex }
     requires small { rest.source.degree ≤ MOST_VERTICES }
     requires inside { rest.place ≤ rest.source.degree }
+    requires neighbours { rest.neighbours ≡ drop rest.place (neighbours
+        (graph_of mapped.now.version.now) rest.source.vertex) }
     requires long { length values.old ≡ (graph_of mapped.now.version.now).vertex_count }
     requires memory { IsFor mapped.now.program.now memory.old }
     requires kept { let m = mapped.now in
         AreNumbered m.program.now (graph_of m.version.now) (inputs_of m) memory.old.kept }
     ensures values { let m = mapped.now in let g = graph_of m.version.now in values.new
-        ≡ pushed reduction (take result.count (drop rest.place (neighbours g rest.source.vertex)))
-        (exits_from m.program.now g (inputs_of m) rest.source.vertex rest.place result.count) values.old }
+        ≡ pushed reduction (take result.count (drop rest.entry.place (neighbours g rest.entry.source.vertex)))
+        (exits_from m.program.now g (inputs_of m) rest.entry.source.vertex rest.entry.place result.count) values.old }
     ensures long { length values.new ≡ length values.old }
     ensures value { let m = mapped.now in result.value ≡ reduction_of_numbers reduction
-        (exits_from m.program.now (graph_of m.version.now) (inputs_of m) rest.source.vertex rest.place result.count) }
+        (exits_from m.program.now (graph_of m.version.now)
+        (inputs_of m) rest.entry.source.vertex rest.entry.place result.count) }
     ensures count { let m = mapped.now in
-        length (exits_from m.program.now (graph_of m.version.now) (inputs_of m) rest.source.vertex rest.place result.count)
+        length (exits_from m.program.now (graph_of m.version.now)
+        (inputs_of m) rest.entry.source.vertex rest.entry.place result.count)
         ≡ result.count }
-    ensures some { rest.place < rest.source.degree → 0 < result.count }
-    ensures few { rest.place + result.count ≤ rest.source.degree }
+    ensures some { rest.entry.place < rest.entry.source.degree → 0 < result.count }
+    ensures few { rest.entry.place + result.count ≤ rest.entry.source.degree }
     ensures cost { memory.old.budget ≤ memory.new.budget + (longest mapped.now.program.now + EDGE_COST) * result.count }
     ensures falls { memory.new.budget ≤ memory.old.budget - EDGE_COST * result.count }
-    ensures stops { rest.place + result.count < rest.source.degree → memory.new.budget ≡ 0 }
+    ensures stops { rest.entry.place + result.count < rest.entry.source.degree → memory.new.budget ≡ 0 }
     ensures memory { IsFor mapped.now.program.now memory.new }
     ensures kept { let m = mapped.now in
         AreNumbered m.program.now (graph_of m.version.now) (inputs_of m) memory.new.kept }
 {
-    let Rest { source, place } = rest;
+    let Rest {
+        source,
+        place,
+        neighbours,
+    } = rest;
+    let mut cursor = neighbours;
     let mut so_far = nothing(reduction);
-    let mut cursor = neighbours_from(mapped.version, source.vertex, place);
     let mut at = place;
     let mut goes_on = true;
     'slices: while goes_on && at < source.degree {
@@ -165,7 +173,8 @@ pub fn push_some(
     // The budget falls by no more than the bound and a constant for each edge, and a constant for each vertex; and by these
     // constants at least, as far as it goes.
     ensures cost { let m = mapped.now in let p = m.program.now in let g = graph_of m.version.now in
-        let f = request.now.frontier.now in let most = cost_before (longest p + EDGE_COST) VERTEX_COST p (longest p) g (inputs_of m) f in
+        let f = request.now.frontier.now in let most = cost_before (longest p + EDGE_COST) VERTEX_COST p (longest p) g
+        (inputs_of m) f in
         progress.old.budget + most progress.old ≤ progress.new.budget + most progress.new }
     ensures falls { let m = mapped.now in let p = m.program.now in let g = graph_of m.version.now in
         let least = cost_before EDGE_COST VERTEX_COST p (longest p) g (inputs_of m) request.now.frontier.now in
@@ -182,7 +191,8 @@ pub fn push_some(
     'vertices: while goes_on && (progress.vertex as usize) < frontier.len() {
         let at = progress.vertex as usize;
         let vertex = frontier[at];
-        let degree = mapped.version.degree(u64::from(vertex));
+        let neighbours = mapped.version.cursor(vertex);
+        let degree = neighbours.left();
         if at >= looked && are_few(degree, least) {
             let end = frontier.len().min(at.saturating_add(MOST_LOOKED));
             let left = frontier.get(at..end).unwrap_or(&[]);
@@ -191,6 +201,7 @@ pub fn push_some(
         let rest = Rest {
             source: Source { vertex, degree },
             place: progress.place,
+            neighbours: neighbours.skip(progress.place),
         };
         memory.budget = progress.budget;
         let part = push_vertex(mapped, memory, request.reduction, rest, values);
@@ -218,7 +229,8 @@ pub fn push_whole(
     requires few { length request.now.frontier.now ≤ MOST_VERTICES }
     requires long { length values.old ≡ (graph_of mapped.now.version.now).vertex_count }
     requires memory { IsFor mapped.now.program.now memory.old }
-    ensures values { let m = mapped.now in let p = m.program.now in let g = graph_of m.version.now in let r = request.now in
+    ensures values { let m = mapped.now in let p = m.program.now in let g = graph_of m.version.now in
+        let r = request.now in
         values.new ≡ pushed_edges p (longest p) g r.reduction (inputs_of m) r.frontier.now values.old }
     ensures edges { let m = mapped.now in let p = m.program.now in let g = graph_of m.version.now in
         result.edges ≡ length (all_with p (longest p) g (inputs_of m) request.now.frontier.now) }

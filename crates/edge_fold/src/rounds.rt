@@ -174,7 +174,8 @@ fn push_each(
         (span_numbers m.program.now (graph_of m.version.now) (inputs_of m) span.entry) values.old }
     ensures long { length values.new ≡ length values.old }
     ensures value { let m = mapped.now in result.value
-        ≡ reduction_of_numbers reduction (span_numbers m.program.now (graph_of m.version.now) (inputs_of m) span.entry) }
+        ≡ reduction_of_numbers reduction (span_numbers m.program.now (graph_of m.version.now)
+        (inputs_of m) span.entry) }
     ensures count { let m = mapped.now in
         length (span_numbers m.program.now (graph_of m.version.now) (inputs_of m) span.entry)
         ≡ length span.entry.targets.now }

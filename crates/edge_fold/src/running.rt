@@ -81,7 +81,8 @@ pub(crate) fn prepare(
     is_begun: bool,
 )
     requires begun { is_begun ≡ true → BeginAlike edge mapped.now.argument.now memory.old.bytes }
-    ensures record { take mapped.now.program.now.record_length memory.new.bytes ≡ edge_bytes edge (inputs_of mapped.now) }
+    ensures record { take mapped.now.program.now.record_length memory.new.bytes
+        ≡ edge_bytes edge (inputs_of mapped.now) }
     ensures rest { drop RECORD_ROOM memory.new.bytes ≡ drop RECORD_ROOM memory.old.bytes }
 {
     let _length = mapped.program.image().record_length();
@@ -133,7 +134,8 @@ pub(crate) fn fold_span(
     requires few { span.place + length span.targets.now ≤ 2 ^ 32 }
     requires table { HoldsTable mapped.now.program.now.table memory.old.bytes }
     ensures value { let m = mapped.now in result
-        ≡ reduction_of_numbers reduction (span_numbers m.program.now (graph_of m.version.now) (inputs_of m) span.entry) }
+        ≡ reduction_of_numbers reduction (span_numbers m.program.now (graph_of m.version.now)
+        (inputs_of m) span.entry) }
     ensures count { let m = mapped.now in
         length (span_numbers m.program.now (graph_of m.version.now) (inputs_of m) span.entry)
         ≡ length span.entry.targets.now }

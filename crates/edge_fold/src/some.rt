@@ -1,7 +1,7 @@
 //! What the next edges of a vertex reduce to, by blocks and edge by edge, as far as a budget goes.
 ghost use Rattle.std.specs.Prelude.{◌≡◌, ◌+◌, ◌-◌, ◌*◌, ◌<◌, ◌≤◌, length, take, drop};
 ghost use Rattle.past_model.specs.declared.limits.TheConstants.{MOST_VERTICES};
-ghost use Rattle.graph_model.specs.Graph.{degree as degree_of};
+ghost use Rattle.graph_model.specs.Graph.{degree as degree_of, neighbours};
 ghost use Rattle.past_model.specs.Past.{graph_of};
 ghost use Rattle.map_model.specs.EdgeMap.{reduction_of_numbers};
 ghost use Rattle.verifier.specs.Walks.{longest};
@@ -18,7 +18,7 @@ use crate::fold::LEAST_IN_BLOCK;
 use crate::mapped::Mapped;
 use crate::memory::Memory;
 use crate::reducing::{combine, nothing};
-use crate::span::{Source, Span, neighbours_from};
+use crate::span::{Rest, Span};
 use bpf_blocks::LANES;
 use map_model::Reduction;
 
@@ -112,31 +112,39 @@ pub(crate) fn fold_some(
     mapped: &Mapped<'_>,
     memory: &mut Memory,
     reduction: Reduction,
-    source: Source,
-    place: u32,
+    rest: Rest<'_>,
 ) -> Part
-    requires degree { source.degree ≡ degree_of (graph_of mapped.now.version.now) source.vertex }
-    requires small { source.degree ≤ MOST_VERTICES }
-    requires inside { place ≤ source.degree }
+    requires degree { rest.source.degree ≡ degree_of (graph_of mapped.now.version.now) rest.source.vertex }
+    requires small { rest.source.degree ≤ MOST_VERTICES }
+    requires inside { rest.place ≤ rest.source.degree }
+    requires neighbours { rest.neighbours ≡ drop rest.place (neighbours
+        (graph_of mapped.now.version.now) rest.source.vertex) }
     requires memory { IsFor mapped.now.program.now memory.old }
     requires kept { let m = mapped.now in
         AreNumbered m.program.now (graph_of m.version.now) (inputs_of m) memory.old.kept }
     ensures value { let m = mapped.now in result.value ≡ reduction_of_numbers reduction
-        (exits_from m.program.now (graph_of m.version.now) (inputs_of m) source.vertex place result.count) }
+        (exits_from m.program.now (graph_of m.version.now)
+        (inputs_of m) rest.entry.source.vertex rest.entry.place result.count) }
     ensures count { let m = mapped.now in
-        length (exits_from m.program.now (graph_of m.version.now) (inputs_of m) source.vertex place result.count)
+        length (exits_from m.program.now (graph_of m.version.now)
+        (inputs_of m) rest.entry.source.vertex rest.entry.place result.count)
         ≡ result.count }
-    ensures some { place < source.degree → 0 < result.count }
-    ensures few { place + result.count ≤ source.degree }
+    ensures some { rest.entry.place < rest.entry.source.degree → 0 < result.count }
+    ensures few { rest.entry.place + result.count ≤ rest.entry.source.degree }
     ensures cost { memory.old.budget ≤ memory.new.budget + (longest mapped.now.program.now + EDGE_COST) * result.count }
     ensures falls { memory.new.budget ≤ memory.old.budget - EDGE_COST * result.count }
-    ensures stops { place + result.count < source.degree → memory.new.budget ≡ 0 }
+    ensures stops { rest.entry.place + result.count < rest.entry.source.degree → memory.new.budget ≡ 0 }
     ensures memory { IsFor mapped.now.program.now memory.new }
     ensures kept { let m = mapped.now in
         AreNumbered m.program.now (graph_of m.version.now) (inputs_of m) memory.new.kept }
 {
+    let Rest {
+        source,
+        place,
+        neighbours,
+    } = rest;
+    let mut cursor = neighbours;
     let mut so_far = nothing(reduction);
-    let mut cursor = neighbours_from(mapped.version, source.vertex, place);
     let mut at = place;
     let mut goes_on = true;
     'slices: while goes_on && at < source.degree {

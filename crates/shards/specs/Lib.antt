@@ -1,6 +1,7 @@
 pub mod Groups
 pub mod Part
 pub mod Lent
+pub mod Targets
 pub mod Merge
 pub mod Put
 pub mod ShortBlocks

@@ -27,6 +27,7 @@ mod scratch;
 mod shard;
 mod short_blocks;
 mod single_edit;
+mod targets;
 
 pub use arrays::SortedLists;
 pub use counts::Counts;
@@ -34,3 +35,4 @@ pub use edited_shard::EditedShard;
 pub use groups::{Grouping, Groups};
 pub use scratch::Scratch;
 pub use shard::Shard;
+pub use targets::Targets;

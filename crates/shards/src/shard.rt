@@ -13,6 +13,7 @@ use crate::page_size::PageSize;
 use crate::pages::{Cut, empty_pages, page_of};
 use crate::put_vertex::put_vertex;
 use crate::scratch::Scratch;
+use crate::targets::Targets;
 use past_model::{Edit, Home, MOST_VERTICES, RANGE_VERTICES};
 use std::alloc::{AllocError, Global};
 use std::marker::Model;
@@ -286,6 +287,19 @@ impl Shard {
     {
         let vertex = usize::from(vertex);
         page_of(&self.pages, self.size, vertex).lent_at(self.size.place_of(vertex), place)
+    }
+
+    /// A vertex's targets.
+    pub fn targets(&self, vertex: u8) -> Targets<'_>
+        requires { vertex < length self.now.rows }
+        ensures { result ≡ row_at self.now vertex }
+    {
+        let vertex = usize::from(vertex);
+        Targets {
+            page: page_of(&self.pages, self.size, vertex),
+            vertex: self.size.place_of(vertex) as u8,
+            place: 0,
+        }
     }
 
     /// Whether a vertex has a target.

@@ -12,7 +12,7 @@ use Rattle.map_model.specs.EdgeMap.{Inputs}
 
 pub slices-init : goal.slices-init
 slices-init c = record {
-  rest = sym c.cursor-cursor.ensures;
+  rest = sym c.requires.targets;
   memory = c.requires.memory;
   kept = c.requires.kept;
   folded = none_folded c.args.reduction c.args.mapped.now.program.now (graph_of c.args.mapped.now.version.now) (inputs_of c.args.mapped.now) c.args.source.vertex 0 (neighbours (graph_of c.args.mapped.now.version.now) c.args.source.vertex) c.nothing-so_far.result c.nothing-so_far.ensures;

@@ -33,19 +33,19 @@ loop-source-preserved c =
     let numbers : all_with p k g inputs (take (i + 1) c.args.request.now.frontier.now) ≡ all_with p k g inputs early ++ exits_with p k g inputs v =
     flat_map_more (exits_with p k g inputs) c.args.request.now.frontier.now i 0 c.loop-source-test.true in
     let count = ap length numbers ∙ length-append (all_with p k g inputs early) (exits_with p k g inputs v) in
-    let value : c.degree-degree.result ≡ degree g v = c.degree-degree.ensures.value ∙ ap (degree g) c.from.ensures in
+    let value : c.left-degree.result ≡ degree g v = c.left-degree.ensures.value ∙ ap length c.cursor-targets.ensures in
     let row : record { vertex = v; value = c.fold_vertex-value.result } ≡ row_with p k g r inputs v =
     ap (λ (n : ℕ). record { vertex = v; value = n }) c.fold_vertex-value.ensures.value in
     record {
-      edges = omega (arith, count, c.loop-source.invariant.edges, c.from-in-loop-source.ensures, value, c.fold_vertex-value.ensures.count);
+      edges = omega (arith, count, c.loop-source.invariant.edges, c.from.ensures, value, c.fold_vertex-value.ensures.count);
       total = total_more r c.loop-source.out.total c.fold_vertex-value.result c.combine.result (all_with p k g inputs early) (exits_with p k g inputs v) _ c.loop-source.invariant.total c.fold_vertex-value.ensures.value numbers c.combine.ensures;
       rows = c.in_ok-put_row.ensures
-          ∙ ap (λ (l : List Row). l ++ (if has_row c.args.rows c.degree-degree.result then record { vertex = v; value = c.fold_vertex-value.result } ∷ [] else [])) c.loop-source.invariant.rows
-          ∙ ap (λ (w : Row). reported_rows c.args.rows g (rows_with p k g r inputs early) ++ (if has_row c.args.rows c.degree-degree.result then w ∷ [] else [])) row
+          ∙ ap (λ (l : List Row). l ++ (if has_row c.args.rows c.left-degree.result then record { vertex = v; value = c.fold_vertex-value.result } ∷ [] else [])) c.loop-source.invariant.rows
+          ∙ ap (λ (w : Row). reported_rows c.args.rows g (rows_with p k g r inputs early) ++ (if has_row c.args.rows c.left-degree.result then w ∷ [] else [])) row
           ∙ ap (λ (n : ℕ). reported_rows c.args.rows g (rows_with p k g r inputs early) ++ (if has_row c.args.rows n then row_with p k g r inputs v ∷ [] else [])) value
           ∙ ap (λ l. reported_rows c.args.rows g (rows_with p k g r inputs early) ++ l) (sym (told_one c.args.rows g (row_with p k g r inputs v)))
           ∙ sym (told_more c.args.rows p k g r inputs c.args.request.now.frontier.now i c.loop-source-test.true);
       memory = c.fold_vertex-value.ensures.memory;
       kept = c.fold_vertex-value.ensures.kept;
-      few = omega (arith, c.loop-source.invariant.few, c.from-in-loop-source.ensures, c.degree-degree.ensures.small);
+      few = omega (arith, c.loop-source.invariant.few, c.from.ensures, c.left-degree.ensures.small);
     }

@@ -49,7 +49,7 @@ vertices-preserved c =
     let early = take i f in
     let numbers : all_with p k g a (take (i + 1) f) ≡ all_with p k g a early ++ exits_with p k g a v = flat_map_more (exits_with p k g a) f i 0 c.vertices-test.true in
     let count = ap length numbers ∙ length-append (all_with p k g a early) (exits_with p k g a v) in
-    let degree_is : c.degree-degree.result ≡ degree g v = c.degree-degree.ensures.value ∙ ap (degree g) c.from.ensures in
+    let degree_is : c.left-degree.result ≡ degree g v = c.left-degree.ensures.value ∙ ap length c.cursor-targets.ensures in
     let inside : i < length c.vertices.values = omega (arith, c.vertices.invariant.long, c.vertices-test.true) in
     record {
       inside = omega (arith, c.vertices-test.true);
@@ -62,5 +62,5 @@ vertices-preserved c =
       long = length-set c.vertices.values i c.fold_vertex-value.result ∙ c.vertices.invariant.long;
       memory = c.fold_vertex-value.ensures.memory;
       kept = c.fold_vertex-value.ensures.kept;
-      few = omega (arith, c.vertices.invariant.few, c.from-edges.ensures, c.degree-degree.ensures.small);
+      few = omega (arith, c.vertices.invariant.few, c.from-edges.ensures, c.left-degree.ensures.small);
     }

@@ -18,9 +18,9 @@ nothing_left (Some x) P Q h none = absurd (none x refl)
 pub slices-init : goal.slices-init
 slices-init c = record {
   few = omega arith;
-  rest = λ _ _. sym c.neighbours_from-cursor.ensures;
+  rest = λ _ _. sym c.requires.neighbours;
   used = λ is. absurd cc;
-  filled = none_filled c.args.mapped.now.program.now (graph_of c.args.mapped.now.version.now) (inputs_of c.args.mapped.now) c.args.source.vertex c.args.place (drop c.args.place (neighbours (graph_of c.args.mapped.now.version.now) c.args.source.vertex)) c.args.numbers.now;
+  filled = none_filled c.args.mapped.now.program.now (graph_of c.args.mapped.now.version.now) (inputs_of c.args.mapped.now) c.args.rest.source.vertex c.args.rest.place (drop c.args.rest.place (neighbours (graph_of c.args.mapped.now.version.now) c.args.rest.source.vertex)) c.args.numbers.now;
   paid = omega arith;
   spent = omega arith;
   memory = c.requires.memory;
@@ -36,18 +36,18 @@ used_up (suc n) is = absurd (let more : nat_lt 0 (suc n) ≡ true = lt-ltb 0 (su
 
 pub unreachable-requires : goal.unreachable-requires
 unreachable-requires c =
-    let all = neighbours (graph_of c.args.mapped.now.version.now) c.args.source.vertex in
+    let all = neighbours (graph_of c.args.mapped.now.version.now) c.args.rest.source.vertex in
     let ended = (nothing_left c.next_slice.result _ _ c.next_slice.ensures.lent c.in_default.not-Some).0 in
-    let past : length (drop c.args.place all) ≤ c.slices.written = none_left _ _ (c.slices.invariant.rest c.slices-test.true c.if-written-most.true ∙ ended) in
-    omega (arith, past, c.if-written-most.true, c.min-most.ensures, c.requires.degree, length-drop c.args.place all)
+    let past : length (drop c.args.rest.place all) ≤ c.slices.written = none_left _ _ (c.slices.invariant.rest c.slices-test.true c.if-written-most.true ∙ ended) in
+    omega (arith, past, c.if-written-most.true, c.min-most.ensures, c.requires.degree, length-drop c.args.rest.place all)
 
 pub slices-preserved : goal.slices-preserved
 slices-preserved c =
     let p = c.args.mapped.now.program.now in
     let g = graph_of c.args.mapped.now.version.now in
     let a = (inputs_of c.args.mapped.now) in
-    let u = c.args.source.vertex in
-    let place = c.args.place in
+    let u = c.args.rest.source.vertex in
+    let place = c.args.rest.place in
     let left = drop place (neighbours g u) in
     let written = c.slices.written in
     let slice = c.in-Some.targets.now in

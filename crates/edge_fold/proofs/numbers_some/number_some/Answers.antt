@@ -87,7 +87,7 @@ vertices-preserved c =
     let middle : Progress = record { budget = part.new.memory.budget; edges = (at.edges + n) % 2 ^ 64; total = at.total; vertex = at.vertex; place = at.place + n } in
     let next : Progress = record { budget = c.pay.new.budget; edges = (at.edges + n) % 2 ^ 64; total = at.total; vertex = at.vertex + 1; place = 0 } in
     let inside : at.vertex < length f = c.if-progress-frontier.true in
-    let degree_is : c.degree-degree.result ≡ degree g v = c.degree-degree.ensures.value ∙ ap (degree g) c.from.ensures in
+    let degree_is : c.left-degree.result ≡ degree g v = c.left-degree.ensures.value ∙ ap length c.cursor-neighbours.ensures in
     let ended : at.place + n ≡ degree g v = omega (arith, c.if-progress-degree.false, part.ensures.few, degree_is) in
     let further = past_further c.args.progress.now at next inv.far refl in
     let start = numbers_before p (longest p) g a f c.args.progress.now in

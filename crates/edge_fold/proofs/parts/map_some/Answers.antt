@@ -54,7 +54,7 @@ returns-then-progress-degree-clause-so_far c = λ has.
     let small : g.vertex_count ≤ MOST_VERTICES = omega (arith, c.vertex_count-count.ensures.range, c.vertex_count-count.ensures.value, vertex_count-graph_of c.args.mapped.now.version.now) in
     let few = few_before p g a f at.vertex at.place small c.vertices.invariant.place.inside c.requires.few c.vertices.invariant.place.within in
     gone_on p g r a f at _ part.result.count c.value_of.result c.vertices.values so (omega (arith, c.vertices.invariant.long, c.if-progress-frontier.true)) c.vertices.invariant.place.within value part.ensures.count
-    (omega (arith, few, part.ensures.few, c.degree-degree.ensures.small))
+    (omega (arith, few, part.ensures.few, c.left-degree.ensures.small))
     (record { vertex = c.add.ensures.vertex; place = c.add.ensures.place; edges_are = c.add.ensures.edges; total_is = c.add.ensures.total ∙ ap (combination r at.total) part.ensures.value })
 
 pub returns-then-progress-degree-clause-cost : goal.returns-then-progress-degree-clause-cost
@@ -94,7 +94,7 @@ vertices-preserved c =
     let next : Progress = record { budget = c.pay.new.budget; edges = c.add.new.progress.edges; total = c.add.new.progress.total; vertex = c.add.new.progress.vertex + 1; place = 0 } in
     let inside : at.vertex < length f = c.if-progress-frontier.true in
     let long : at.vertex < length c.vertices.values = omega (arith, c.vertices.invariant.long, inside) in
-    let degree_is : c.degree-degree.result ≡ degree g v = c.degree-degree.ensures.value ∙ ap (degree g) c.from.ensures in
+    let degree_is : c.left-degree.result ≡ degree g v = c.left-degree.ensures.value ∙ ap length c.cursor-neighbours.ensures in
     let all : c.add.new.progress.place ≡ degree g v = omega (arith, c.if-progress-degree.false, c.add.ensures.place, part.ensures.few, degree_is) in
     let there : slice_index f c.add.new.progress.vertex ≡ v = ap (slice_index f) c.add.ensures.vertex in
     let beyond : c.add.new.progress.vertex < length f = omega (arith, inside, c.add.ensures.vertex) in
@@ -111,7 +111,7 @@ vertices-preserved c =
           let small : g.vertex_count ≤ MOST_VERTICES = omega (arith, c.vertex_count-count.ensures.range, c.vertex_count-count.ensures.value, vertex_count-graph_of c.args.mapped.now.version.now) in
           let few = few_before p g a f at.vertex at.place small c.vertices.invariant.place.inside c.requires.few c.vertices.invariant.place.within in
           let on = gone_on p g r a f at middle part.result.count c.value_of.result c.vertices.values so long c.vertices.invariant.place.within value part.ensures.count
-          (omega (arith, few, part.ensures.few, c.degree-degree.ensures.small))
+          (omega (arith, few, part.ensures.few, c.left-degree.ensures.small))
           (record { vertex = c.add.ensures.vertex; place = c.add.ensures.place; edges_are = c.add.ensures.edges; total_is = c.add.ensures.total ∙ ap (combination r at.total) part.ensures.value }) in
           let here : slice_index values c.add.new.progress.vertex ≡ c.value_of.result = ap (slice_index values) c.add.ensures.vertex ∙ get_or-set_same c.vertices.values at.vertex c.value_of.result 0 long in
           let reduces : slice_index values c.add.new.progress.vertex ≡ reduction_of_numbers r (first_exits p (longest p) g a (slice_index f c.add.new.progress.vertex) c.add.new.progress.place) =
@@ -144,7 +144,7 @@ returns-then-progress-degree-clause-place c =
     let at = c.vertices.progress in
     let next = c.add.new.progress in
     let v = slice_index f at.vertex in
-    let degree_is : c.degree-degree.result ≡ degree g v = c.degree-degree.ensures.value ∙ ap (degree g) c.from.ensures in
+    let degree_is : c.left-degree.result ≡ degree g v = c.left-degree.ensures.value ∙ ap length c.cursor-neighbours.ensures in
     let same : degree g (slice_index f next.vertex) ≡ degree g v = ap (λ i. degree g (slice_index f i)) c.add.ensures.vertex in
     let inside : at.vertex < length f = c.if-progress-frontier.true in
     record {
@@ -166,7 +166,7 @@ vertices-preserved-then-degree-eq0 c =
     let next = c.pass_some-goes_on.new.progress in
     let count = next.vertex - at.vertex in
     let v = slice_index f at.vertex in
-    let degree_is : c.degree-degree.result ≡ degree g v = c.degree-degree.ensures.value ∙ ap (degree g) c.from.ensures in
+    let degree_is : c.left-degree.result ≡ degree g v = c.left-degree.ensures.value ∙ ap length c.cursor-neighbours.ensures in
     let none : degree g v ≡ 0 = sym degree_is ∙ c.if-degree-eq0.true in
     let first : at.place ≡ 0 = omega (arith, c.vertices.invariant.place.within, none) in
     let start : next.place ≡ 0 = passed.place ∙ first in

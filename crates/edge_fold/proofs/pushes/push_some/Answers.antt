@@ -46,11 +46,11 @@ returns-then-progress-degree-clause-so_far c = λ first has.
     let at = c.vertices.progress in
     let part = c.push_vertex-part in
     let so = c.vertices.invariant.so_far first has in
-    let degree_is : c.degree-degree.result ≡ degree g (slice_index f at.vertex) = c.degree-degree.ensures.value ∙ ap (degree g) c.from.ensures in
+    let degree_is : c.left-degree.result ≡ degree g (slice_index f at.vertex) = c.left-degree.ensures.value ∙ ap length c.cursor-neighbours.ensures in
     let small : g.vertex_count ≤ MOST_VERTICES = omega (arith, c.vertex_count-count.ensures.range, c.vertex_count-count.ensures.value, vertex_count-graph_of c.args.mapped.now.version.now) in
     let few = few_before p g a f at.vertex at.place small c.vertices.invariant.place.inside c.requires.few c.vertices.invariant.place.within in
     pushed_on p g r a f at _ part.result.count first c.vertices.values part.new.values so (omega (arith, part.ensures.few, degree_is)) part.ensures.values part.ensures.count
-    (omega (arith, few, part.ensures.few, c.degree-degree.ensures.small))
+    (omega (arith, few, part.ensures.few, c.left-degree.ensures.small))
     (record { vertex = c.add.ensures.vertex; place = c.add.ensures.place; edges_are = c.add.ensures.edges; total_is = c.add.ensures.total ∙ ap (combination r at.total) part.ensures.value })
 
 pub returns-then-progress-degree-clause-cost : goal.returns-then-progress-degree-clause-cost
@@ -88,7 +88,7 @@ vertices-preserved c =
     let middle : Progress = record { budget = part.new.memory.budget; edges = c.add.new.progress.edges; total = c.add.new.progress.total; vertex = c.add.new.progress.vertex; place = c.add.new.progress.place } in
     let next : Progress = record { budget = c.pay.new.budget; edges = c.add.new.progress.edges; total = c.add.new.progress.total; vertex = c.add.new.progress.vertex + 1; place = 0 } in
     let inside : at.vertex < length f = c.if-progress-frontier.true in
-    let degree_is : c.degree-degree.result ≡ degree g v = c.degree-degree.ensures.value ∙ ap (degree g) c.from.ensures in
+    let degree_is : c.left-degree.result ≡ degree g v = c.left-degree.ensures.value ∙ ap length c.cursor-neighbours.ensures in
     let all : c.add.new.progress.place ≡ degree g v = omega (arith, c.if-progress-degree.false, c.add.ensures.place, part.ensures.few, degree_is) in
     let there : slice_index f c.add.new.progress.vertex ≡ v = ap (slice_index f) c.add.ensures.vertex in
     let beyond : c.add.new.progress.vertex < length f = omega (arith, inside, c.add.ensures.vertex) in
@@ -104,7 +104,7 @@ vertices-preserved c =
           let small : g.vertex_count ≤ MOST_VERTICES = omega (arith, c.vertex_count-count.ensures.range, c.vertex_count-count.ensures.value, vertex_count-graph_of c.args.mapped.now.version.now) in
           let few = few_before p g a f at.vertex at.place small c.vertices.invariant.place.inside c.requires.few c.vertices.invariant.place.within in
           let on = pushed_on p g r a f at middle part.result.count first c.vertices.values part.new.values so (omega (arith, part.ensures.few, degree_is)) part.ensures.values part.ensures.count
-          (omega (arith, few, part.ensures.few, c.degree-degree.ensures.small))
+          (omega (arith, few, part.ensures.few, c.left-degree.ensures.small))
           (record { vertex = c.add.ensures.vertex; place = c.add.ensures.place; edges_are = c.add.ensures.edges; total_is = c.add.ensures.total ∙ ap (combination r at.total) part.ensures.value }) in
           pushed_past p g r a f middle next first part.new.values on beyond ended (record { vertex = refl; place = refl; edges_are = refl; total_is = refl });
       cost = cost_past p g a f (longest p + EDGE_COST) VERTEX_COST _ middle next refl refl beyond ended c.pay.ensures

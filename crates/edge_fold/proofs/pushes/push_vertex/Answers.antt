@@ -26,7 +26,7 @@ slices-init c =
     let left = drop c.args.rest.place (neighbours g c.args.rest.source.vertex) in
     record {
       on = omega arith;
-      rest = λ _. ap (λ n. drop n left) zero ∙ sym c.neighbours_from-cursor.ensures;
+      rest = λ _. ap (λ n. drop n left) zero ∙ sym c.requires.neighbours;
       used = λ is. absurd cc;
       memory = c.requires.memory;
       kept = c.requires.kept;

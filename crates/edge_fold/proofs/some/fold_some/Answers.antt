@@ -16,16 +16,16 @@ slices-init c =
     let p = c.args.mapped.now.program.now in
     let g = graph_of c.args.mapped.now.version.now in
     let a = (inputs_of c.args.mapped.now) in
-    let zero : c.args.place - c.args.place ≡ 0 = omega arith in
-    let left = drop c.args.place (neighbours g c.args.source.vertex) in
+    let zero : c.args.rest.place - c.args.rest.place ≡ 0 = omega arith in
+    let left = drop c.args.rest.place (neighbours g c.args.rest.source.vertex) in
     record {
       on = omega arith;
-      rest = λ _. ap (λ n. drop n left) zero ∙ sym c.neighbours_from-cursor.ensures;
+      rest = λ _. ap (λ n. drop n left) zero ∙ sym c.requires.neighbours;
       used = λ is. absurd cc;
       memory = c.requires.memory;
       kept = c.requires.kept;
-      folded = subst (λ (n : ℕ). IsFolded c.args.reduction p g a c.args.source.vertex c.args.place left n c.nothing-so_far.result) (sym zero)
-          (none_folded c.args.reduction p g a c.args.source.vertex c.args.place left c.nothing-so_far.result c.nothing-so_far.ensures);
+      folded = subst (λ (n : ℕ). IsFolded c.args.reduction p g a c.args.rest.source.vertex c.args.rest.place left n c.nothing-so_far.result) (sym zero)
+          (none_folded c.args.reduction p g a c.args.rest.source.vertex c.args.rest.place left c.nothing-so_far.result c.nothing-so_far.ensures);
       paid = omega arith;
       spent = omega arith;
     }
@@ -36,11 +36,11 @@ nothing_left (Some x) P Q h none = absurd (none x refl)
 
 pub unreachable-requires : goal.unreachable-requires
 unreachable-requires c =
-    let all = neighbours (graph_of c.args.mapped.now.version.now) c.args.source.vertex in
-    let left = drop c.args.place all in
+    let all = neighbours (graph_of c.args.mapped.now.version.now) c.args.rest.source.vertex in
+    let left = drop c.args.rest.place all in
     let ended = (nothing_left c.next_slice.result _ _ c.next_slice.ensures.lent c.in_default.not-Some).0 in
-    let past : length left ≤ c.slices.at - c.args.place = none_left _ _ (c.slices.invariant.rest c.slices-test.true ∙ ended) in
-    omega (arith, past, c.if-at-source.true, c.requires.degree, length-drop c.args.place all, c.slices.invariant.on)
+    let past : length left ≤ c.slices.at - c.args.rest.place = none_left _ _ (c.slices.invariant.rest c.slices-test.true ∙ ended) in
+    omega (arith, past, c.if-at-source.true, c.requires.degree, length-drop c.args.rest.place all, c.slices.invariant.on)
 
 some_left : (b : ℕ) → nat_lt 0 b ≡ true → 0 < b
 some_left zero is = absurd cc
@@ -58,7 +58,7 @@ few_behind all slice left place at most on within ahead inside small =
 pub fold_slice_some-part-requires-clause-few : goal.fold_slice_some-part-requires-clause-few
 fold_slice_some-part-requires-clause-few c =
     let inv = c.slices.invariant in
-    few_behind (neighbours (graph_of c.args.mapped.now.version.now) c.args.source.vertex) c.in-Some.targets.now c.next_slice.new.self c.args.place c.slices.at _ inv.on inv.folded.within
+    few_behind (neighbours (graph_of c.args.mapped.now.version.now) c.args.rest.source.vertex) c.in-Some.targets.now c.next_slice.new.self c.args.rest.place c.slices.at _ inv.on inv.folded.within
     (inv.rest c.slices-test.true ∙ c.in-Some.ensures.lent.1) (omega (arith, c.requires.inside, c.requires.degree)) (omega (arith, c.requires.small, c.requires.degree))
 
 pub overflow_cast-at : goal.overflow_cast-at
@@ -67,7 +67,7 @@ overflow_cast-at c =
     omega (
       arith,
       c.fold_slice_some-part.ensures.few,
-      few_behind (neighbours (graph_of c.args.mapped.now.version.now) c.args.source.vertex) c.in-Some.targets.now c.next_slice.new.self c.args.place c.slices.at MOST_VERTICES inv.on inv.folded.within
+      few_behind (neighbours (graph_of c.args.mapped.now.version.now) c.args.rest.source.vertex) c.in-Some.targets.now c.next_slice.new.self c.args.rest.place c.slices.at MOST_VERTICES inv.on inv.folded.within
           (inv.rest c.slices-test.true ∙ c.in-Some.ensures.lent.1) (omega (arith, c.requires.inside, c.requires.degree)) (omega (arith, c.requires.small, c.requires.degree)),
     )
 
@@ -77,7 +77,7 @@ overflow_add-at c =
     omega (
       arith,
       c.fold_slice_some-part.ensures.few,
-      few_behind (neighbours (graph_of c.args.mapped.now.version.now) c.args.source.vertex) c.in-Some.targets.now c.next_slice.new.self c.args.place c.slices.at MOST_VERTICES inv.on inv.folded.within
+      few_behind (neighbours (graph_of c.args.mapped.now.version.now) c.args.rest.source.vertex) c.in-Some.targets.now c.next_slice.new.self c.args.rest.place c.slices.at MOST_VERTICES inv.on inv.folded.within
           (inv.rest c.slices-test.true ∙ c.in-Some.ensures.lent.1) (omega (arith, c.requires.inside, c.requires.degree)) (omega (arith, c.requires.small, c.requires.degree)),
     )
 
@@ -86,8 +86,8 @@ slices-preserved c =
     let p = c.args.mapped.now.program.now in
     let g = graph_of c.args.mapped.now.version.now in
     let a = (inputs_of c.args.mapped.now) in
-    let u = c.args.source.vertex in
-    let place = c.args.place in
+    let u = c.args.rest.source.vertex in
+    let place = c.args.rest.place in
     let left = drop place (neighbours g u) in
     let at = c.slices.at in
     let n = at - place in
