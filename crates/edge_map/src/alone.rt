@@ -48,7 +48,8 @@ fn find_values(
     requires few { length request.now.frontier.now ≤ MOST_VERTICES }
     requires memory { IsFor mapped.now.program.now memory.old }
     ensures { (first : List ℕ) → IfOk result (λ out. let m = mapped.now in let r = request.now in
-        IsDone wanted.Values m.program.now (graph_of m.version.now) r.reduction (inputs_of m) r.frontier.now first out) }
+        IsDone wanted.Values m.program.now (graph_of m.version.now) r.reduction
+        (inputs_of m) r.frontier.now first out) }
 {
     let mut numbers = vec![in alloc; 0u64; request.frontier.len()]?;
     let end = map_whole(memory, mapped, request, &mut numbers);

@@ -30,7 +30,8 @@ pub struct Job<'a> {
     /// What a push begins with: a number for each vertex of the graph, or else what no number reduces to.
     pub before: Option<&'a [u64]>,
     ghost few: { length request.frontier.now ≤ MOST_VERTICES },
-    ghost long: { IfSome before (λ numbers. length numbers.now ≡ (graph_of mapped.version.now).vertex_count) } by { Prim.hlevel props },
+    ghost long: { IfSome before (λ numbers. length numbers.now
+        ≡ (graph_of mapped.version.now).vertex_count) } by { Prim.hlevel props },
 }
 
 /// What a job gives.

@@ -21,7 +21,8 @@ use version::Version;
 
 /// What the blocks of a list are run in, of which no run has begun.
 fn new_workspace(alloc: Global, program: &Verified) -> Result<Box<Memory>, AllocError>
-    ensures { (g : Graph) (argument : List ℕ) → IfOk result (λ workspace. IsWorkspace program.now g argument workspace.value) }
+    ensures { (g : Graph) (argument : List ℕ) → IfOk result
+        (λ workspace. IsWorkspace program.now g argument workspace.value) }
 {
     Ok(Box::new(alloc, Memory::for_program(program))?)
 }
@@ -108,7 +109,8 @@ impl<'a> Model for EdgeList<'a> {
     ghost view = { λ l. listing l.program.now (graph_of l.walk.past) l.argument.now l.walk.edges };
 
     ghost invariant = { λ l. FitsRecord l.program.now l.argument.now
-        × IfSome l.workspace (λ workspace. IsWorkspace l.program.now (graph_of l.walk.past) l.argument.now workspace.value) };
+        × IfSome l.workspace (λ workspace. IsWorkspace l.program.now
+        (graph_of l.walk.past) l.argument.now workspace.value) };
 }
 
 impl<'a> EdgeList<'a> {

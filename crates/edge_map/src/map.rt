@@ -14,9 +14,9 @@ use crate::errors::MapError;
 use crate::frontier::is_frontier;
 use crate::joined::joined;
 use crate::piece::count_pieces;
-use crate::plan::Plan;
+use crate::plan::{Plan, Team};
 use crate::work::{spread, work};
-use claims::{Claimant, Counter};
+use claims::Counter;
 use edge_fold::{MapOutcome, Rows};
 use map_model::{EDGE_BYTES, Reduction};
 use std::alloc::{AllocError, Global};
@@ -46,16 +46,15 @@ fn done_by<Ga: Gate, R: Threads + Wait>(
     crew: &Crew<'_, R, Ga>,
     alloc: Global,
     plan: Plan<'_>,
-    me: Claimant,
-    more: u8,
+    team: Team,
 ) -> Result<Done, WorkError>
-    requires of { me.counter ≡ plan.counter.now }
-    requires parts { more < me.parts }
-    requires fresh { me.claimed ≡ [] }
-    ensures { IfOk result (λ done. IsWork (task_of plan.entry) me.parts done.claimant done.pieces.items) }
+    requires { team.me.counter ≡ plan.counter.now }
+    ensures { IfOk result (λ done. IsWork (task_of plan.entry) team.me.parts done.claimant done.pieces.items) }
 {
     let rt = crew.rt;
+    let workers = crew.workers;
     let gate = crew.gate;
+    let Team { me, more } = team;
     if more == 0 {
         let done = work(alloc, plan, gate, me)?;
         return Ok(done);
@@ -89,7 +88,14 @@ fn done_by<Ga: Gate, R: Threads + Wait>(
                 rows,
                 counter,
             };
-            spread(rt, alloc, scope, plan, gate, me, more)
+            let crew = Crew { rt, workers, gate };
+            let done = spread(&crew, alloc, scope, plan, Team { me, more });
+            let Crew {
+                rt: _,
+                workers: _,
+                gate: _,
+            } = crew;
+            done
         },
     )
 }
@@ -126,7 +132,7 @@ fn map_allowed<Ga: Gate, R: Threads + Wait>(
     };
     let count = count_pieces(&plan);
     let more = more_workers(crew.workers, count);
-    let mut done = done_by(crew, alloc, plan, me, more)?;
+    let mut done = done_by(crew, alloc, plan, Team { me, more })?;
     let _claimed = counter.count(&mut done.claimant);
     let out = joined(alloc, &plan, done.pieces, count)?;
     Ok(out)

@@ -140,7 +140,8 @@ impl<'a> Job<'a> {
     /// The same for a part of its frontier, of which a push begins with these numbers.
     fn part(&self, frontier: &'a [u32], before: Option<&'a [u64]>) -> Job<'a>
         requires few { length frontier.now ≤ MOST_VERTICES }
-        requires long { IfSome before (λ numbers. length numbers.now ≡ (graph_of self.now.mapped.version.now).vertex_count) }
+        requires long { IfSome before (λ numbers. length numbers.now
+            ≡ (graph_of self.now.mapped.version.now).vertex_count) }
         ensures { IsPartOf self.now frontier.now before.entry result }
     {
         Job {

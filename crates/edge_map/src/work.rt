@@ -8,12 +8,12 @@ ghost use Rattle.edge_map.specs.Plans.{task_of};
 
 use crate::done::Done;
 use crate::piece::{Piece, count_pieces, map_piece};
-use crate::plan::Plan;
+use crate::plan::{Plan, Team};
 use claims::Claimant;
 use edge_fold::Memory;
 use std::alloc::{AllocError, Global};
 use std::thread::{Scope, Threads};
-use workers::{Gate, WorkError};
+use workers::{Crew, Gate, WorkError};
 
 /// One worker's pieces: those that it claims, until none is left. It has one memory for all its edges.
 pub(crate) fn work<Ga: Gate>(
@@ -63,19 +63,17 @@ fn together(plan: &Plan<'_>, here: Done, there: Done) -> Result<Done, AllocError
 
 /// What so many threads do, and the caller's own. All threads that were started have ended.
 pub(crate) fn spread<'s, E, Ga: Gate, R: Threads>(
-    rt: &R,
+    crew: &Crew<'s, R, Ga>,
     alloc: Global,
     scope: &Scope<'s, E>,
     plan: Plan<'s>,
-    gate: &'s Ga,
-    me: Claimant,
-    more: u8,
+    team: Team,
 ) -> Result<Done, WorkError>
-    requires of { me.counter ≡ plan.counter.now }
-    requires parts { more < me.parts }
-    requires fresh { me.claimed ≡ [] }
-    ensures { IfOk result (λ done. IsWork (task_of plan.entry) me.parts done.claimant done.pieces.items) }
+    requires { team.me.counter ≡ plan.counter.now }
+    ensures { IfOk result (λ done. IsWork (task_of plan.entry) team.me.parts done.claimant done.pieces.items) }
 {
+    let gate = crew.gate;
+    let Team { me, more } = team;
     if more == 0 {
         let done = work(alloc, plan, gate, me)?;
         return Ok(done);
@@ -113,8 +111,12 @@ pub(crate) fn spread<'s, E, Ga: Gate, R: Threads>(
     let Ok(thread) = scope.spawn_with(plan, worker) else {
         return Err(WorkError::WorkerRefused);
     };
-    let here = spread(rt, alloc, scope, plan, gate, mine, more - 1);
-    let there = thread.join(rt);
+    let rest = Team {
+        me: mine,
+        more: more - 1,
+    };
+    let here = spread(crew, alloc, scope, plan, rest);
+    let there = thread.join(crew.rt);
     let done = together(&plan, here?, there?)?;
     Ok(done)
 }

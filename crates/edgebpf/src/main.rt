@@ -4,7 +4,7 @@
 use clap::Error;
 use clap::error::ErrorKind as Kind;
 use command_line::options;
-use service::{OpenGate, StdInput, StdOutput, Workers, report, serve};
+use service::{Crew, OpenGate, StdInput, StdOutput, Workers, report, serve};
 use std::io::ErrorKind;
 use std::process::ExitCode;
 use std::{env, io};
@@ -50,7 +50,17 @@ fn main(rt: HostRuntime) -> ExitCode {
     let workers = Workers::new(count).unwrap_or(Workers::one());
     let mut input = StdInput::new(rt.stdin());
     let mut output = StdOutput::new(rt.stdout());
-    let answer = serve(&mut input, &mut output, &rt, alloc, workers, &OpenGate);
+    let crew = Crew {
+        rt: &rt,
+        workers,
+        gate: &OpenGate,
+    };
+    let answer = serve(&crew, alloc, &mut input, &mut output);
+    let Crew {
+        rt: _,
+        workers: _,
+        gate: _,
+    } = crew;
     let (status, line) = report(&answer);
     if !line.is_empty() {
         let _ = eprintln!(rt; "{line}");

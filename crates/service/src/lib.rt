@@ -10,6 +10,6 @@ mod writing;
 
 pub use ends::{Failure, Input, Output, StdInput, StdOutput};
 pub use reporting::report;
-pub use script::{Ending, Gate, OpenGate, Workers};
+pub use script::{Crew, Ending, Gate, OpenGate, Workers};
 pub use serve_error::ServeError;
 pub use serving::serve;

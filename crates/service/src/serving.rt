@@ -10,7 +10,7 @@ use crate::ends::{Input, Output};
 use crate::lines::{Progress, execute_read};
 use crate::serve_error::ServeError;
 use crate::writing::{write_edges, write_text};
-use script::{Crew, Ending, Gate, Script, Step, Workers};
+use script::{Crew, Ending, Gate, Script, Step};
 use std::alloc::{AllocError, Global};
 use std::marker::Model;
 use std::sync::Wait;
@@ -25,6 +25,7 @@ struct Serving {
     script: Script,
     pending: Vec<u8>,
     text: Vec<u8>,
+    alloc: Global,
 }
 
 impl Model for Serving {
@@ -37,13 +38,13 @@ impl Model for Serving {
 
 impl Serving {
     /// Drops the first bytes that were read, which are executed.
-    fn drop_first(&mut self, alloc: Global, count: usize) -> Result<(), AllocError>
+    fn drop_first(&mut self, count: usize) -> Result<(), AllocError>
         requires { count ≤ length self.old.pending }
         ensures script { self.new.script ≡ self.old.script }
         ensures text { self.new.text ≡ self.old.text }
         ensures pending { OnOk result (self.new.pending ≡ drop count self.old.pending) }
     {
-        self.pending = Vec::from_slice(alloc, &self.pending[count..])?;
+        self.pending = Vec::from_slice(self.alloc, &self.pending[count..])?;
         Ok(())
     }
 
@@ -51,7 +52,6 @@ impl Serving {
     fn advance<O: Output, Ga: Gate, R: Threads + Wait>(
         &mut self,
         crew: &Crew<'_, R, Ga>,
-        alloc: Global,
         output: &mut O,
     ) -> Result<Option<Ending>, ServeError>
         requires written { self.old.text ≡ [] }
@@ -65,13 +65,13 @@ impl Serving {
             let left = &self.pending[from..];
             match execute_read(crew, &mut self.script, &mut self.text, left)? {
                 Progress::Left(more) => {
-                    self.drop_first(alloc, from + more)?;
+                    self.drop_first(from + more)?;
                     write_text(output, &mut self.text)?;
                     return Ok(None);
                 }
                 Progress::Lists(more, listing) => {
                     from += more;
-                    write_edges(output, alloc, &mut self.text, &listing)?;
+                    write_edges(output, self.alloc, &mut self.text, &listing)?;
                 }
                 Progress::Settled => {
                     write_text(output, &mut self.text)?;
@@ -97,7 +97,6 @@ impl Serving {
     fn conclude<O: Output, Ga: Gate, R: Threads + Wait>(
         &mut self,
         crew: &Crew<'_, R, Ga>,
-        alloc: Global,
         output: &mut O,
     ) -> Result<Ending, ServeError>
         requires one { IsOneLine self.old.pending }
@@ -114,7 +113,7 @@ impl Serving {
         match self.script.execute(crew, &mut self.text, rest)? {
             Step::Executed => self.end(output),
             Step::Lists(listing) => {
-                write_edges(output, alloc, &mut self.text, &listing)?;
+                write_edges(output, self.alloc, &mut self.text, &listing)?;
                 self.end(output)
             }
             Step::Stopped => {
@@ -129,7 +128,6 @@ impl Serving {
     fn turn<I: Input, O: Output, Ga: Gate, R: Threads + Wait>(
         &mut self,
         crew: &Crew<'_, R, Ga>,
-        alloc: Global,
         input: &mut I,
         output: &mut O,
         block: &mut [u8],
@@ -149,18 +147,17 @@ impl Serving {
             return Err(ServeError::Read);
         };
         if count == 0 {
-            let ending = self.conclude(crew, alloc, output)?;
+            let ending = self.conclude(crew, output)?;
             return Ok(Some(ending));
         }
         self.pending.extend_from_slice(&block[..count])?;
-        self.advance(crew, alloc, output)
+        self.advance(crew, output)
     }
 
     /// Reads, executes and writes until the script ends.
     fn until_ended<I: Input, O: Output, Ga: Gate, R: Threads + Wait>(
         &mut self,
         crew: &Crew<'_, R, Ga>,
-        alloc: Global,
         input: &mut I,
         output: &mut O,
         block: &mut [u8],
@@ -177,7 +174,7 @@ impl Serving {
         ensures writes { CountsWrites result (O.failures output.old) (O.failures output.new) }
     {
         for _ in 0..u64::MAX {
-            if let Some(ending) = self.turn(crew, alloc, input, output, block)? {
+            if let Some(ending) = self.turn(crew, input, output, block)? {
                 return Ok(ending);
             }
         }
@@ -191,6 +188,7 @@ impl Serving {
             script,
             pending: _,
             text: _,
+            alloc: _,
         } = self;
         script.close(rt);
     }
@@ -208,12 +206,10 @@ impl Serving {
 /// be started; one worker needs none. `Store` comes only at a line whose answer the store alone gives: the end of a batch, a
 /// pin, a home or a rebase.
 pub fn serve<I: Input, O: Output, Ga: Gate, R: Threads + Wait>(
+    crew: &Crew<'_, R, Ga>,
+    alloc: Global,
     input: &mut I,
     output: &mut O,
-    rt: &R,
-    alloc: Global,
-    workers: Workers,
-    gate: &Ga,
 ) -> Result<Ending, ServeError>
     ensures served { Serves result (I.remaining input.old) (I.remaining input.new)
         (O.contents output.old) (O.contents output.new) }
@@ -226,14 +222,9 @@ pub fn serve<I: Input, O: Output, Ga: Gate, R: Threads + Wait>(
         script: Script::new(alloc),
         pending: Vec::new(alloc),
         text: Vec::new(alloc),
+        alloc,
     };
-    let crew = Crew { rt, workers, gate };
-    let answer = serving.until_ended(&crew, alloc, input, output, &mut block);
-    let Crew {
-        rt,
-        workers: _,
-        gate: _,
-    } = crew;
-    serving.close(rt);
+    let answer = serving.until_ended(crew, input, output, &mut block);
+    serving.close(crew.rt);
     answer
 }

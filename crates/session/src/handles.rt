@@ -34,7 +34,8 @@ impl Model for Handles {
 
     ghost view = { λ h. record { past = h.ends.publisher.moment.past; held = h.ends.publisher.held } };
 
-    ghost invariant = { λ h. AreHandles h.vertex_count h.number h.epoch h.ends.publisher h.ends.feeds.items h.ends.reader };
+    ghost invariant = { λ h. AreHandles h.vertex_count h.number h.epoch h.ends.publisher h.ends.feeds.items
+        h.ends.reader };
 }
 
 impl Handles {

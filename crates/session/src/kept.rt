@@ -127,7 +127,8 @@ pub(crate) fn find_columns<'a>(
 /// The place of the column of a name, or the end.
 fn place_of(columns: &[NamedColumn], name: &[u8]) -> usize
     ensures place { (numbers : List ℕ) → stored name.now numbers (map kept_column columns.now)
-        ≡ map kept_column (take result columns.now) ++ stored name.now numbers (map kept_column (drop result columns.now)) }
+        ≡ map kept_column (take result columns.now)
+        ++ stored name.now numbers (map kept_column (drop result columns.now)) }
     ensures same { (c : KeptColumn) → result < length columns.now → c ≡ get_or (map kept_column columns.now) result c
         → same_bytes c.name name.now ≡ true }
     ensures first { column_named name.now (map kept_column columns.now)
@@ -166,7 +167,8 @@ pub(crate) fn set_in_place(
     numbers: &[u64],
 ) -> bool
     ensures set { result ≡ true → (vertices : ℕ) → map kept_column columns.new.items ≡ stored name.now
-        (with_numbers first numbers.now (numbers_or_zeros vertices (column_named name.now (map kept_column columns.old.items))))
+        (with_numbers first numbers.now (numbers_or_zeros vertices (column_named name.now
+        (map kept_column columns.old.items))))
         (map kept_column columns.old.items) }
     ensures there { result ≡ true → is_some (column_named name.now (map kept_column columns.old.items)) ≡ true }
     ensures kept { result ≡ false → columns.new ≡ columns.old }

@@ -85,7 +85,8 @@ fn lent_of<'a>(
 
 /// Whether an argument and columns fill a program's record.
 fn fills_record(asked: &Asked<'_, '_>, lent: &Lent<'_>) -> bool
-    ensures { (result ≡ true) ↔ (length asked.now.argument.now + EDGE_BYTES + COLUMN_BYTES * length lent.now.columns.items
+    ensures { (result ≡ true) ↔ (length asked.now.argument.now + EDGE_BYTES + COLUMN_BYTES * length
+        lent.now.columns.items
         ≡ lent.now.program.now.record_length) }
 {
     let columns = lent.columns.len().saturating_mul(COLUMN_BYTES);
@@ -101,11 +102,13 @@ fn fills_record(asked: &Asked<'_, '_>, lent: &Lent<'_>) -> bool
 fn lent_fault(asked: &Asked<'_, '_>, lent: &Lent<'_>, into: Option<&[u64]>) -> Option<Fault>
     ensures fault { result ≡ lent_fault_of (asked_of asked.now) lent.now.program.now lent.now.pin.now.past.vertex_count
         (each_now lent.now.columns.items) (into_list into.entry) }
-    ensures fits { IfNone result (length asked.now.argument.now + EDGE_BYTES + COLUMN_BYTES * length lent.now.columns.items
+    ensures fits { IfNone result (length asked.now.argument.now + EDGE_BYTES + COLUMN_BYTES * length
+        lent.now.columns.items
         ≡ lent.now.program.now.record_length) }
     ensures few { IfNone result (length lent.now.columns.items ≤ MOST_COLUMNS) }
     ensures frontier { IfNone result (is_frontier_of lent.now.pin.now.past.vertex_count asked.now.frontier.now ≡ true) }
-    ensures long { IfNone result (IfSome into.entry (λ numbers. length numbers.now ≡ lent.now.pin.now.past.vertex_count)) }
+    ensures long { IfNone result (IfSome into.entry (λ numbers. length numbers.now
+        ≡ lent.now.pin.now.past.vertex_count)) }
 {
     if !fills_record(asked, lent) {
         return Some(Fault::ArgumentLength);
@@ -252,7 +255,8 @@ fn mapped_rows<'l, Ga: Gate, R: Threads>(
 ) -> Result<JobOutcome, AllocError>
     requires few { length request.now.frontier.now ≤ MOST_VERTICES }
     ensures { IfOk result (λ out. let m = mapped.now in let r = request.now in let g = graph_of m.version.now in
-        IsDone Rows m.program.now g r.reduction (inputs_of m) r.frontier.now (begins_with r.reduction g.vertex_count None) out) }
+        IsDone Rows m.program.now g r.reduction (inputs_of m) r.frontier.now
+        (begins_with r.reduction g.vertex_count None) out) }
 {
     let job = Job {
         mapped: *mapped,
@@ -359,7 +363,8 @@ impl Session {
         asked: &Asked<'a, '_>,
         into: &[u8],
     ) -> Result<Answer<'a>, CommandError>
-        ensures performed { Performs (write_response way (asked_of asked.now) into.now self.old) result self.old self.new }
+        ensures performed { Performs (write_response way
+            (asked_of asked.now) into.now self.old) result self.old self.new }
         ensures kept { IfErr result (λ _. self.new ≡ self.old) }
     {
         let written = self.write(crew, way, asked, into)?;

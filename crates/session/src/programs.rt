@@ -104,7 +104,8 @@ impl Session {
 
     /// Keeps a program where the verifier accepts it, and says what it answered.
     fn judge<'a>(&mut self, name: &'a [u8], image: Image) -> Result<Answer<'a>, CommandError>
-        ensures performed { Performs (verdict_response (verdict image) name.now image self.old) result self.old self.new }
+        ensures performed { Performs (verdict_response
+            (verdict image) name.now image self.old) result self.old self.new }
         ensures kept { IfErr result (λ _. self.new ≡ self.old) }
     {
         match verify(self.alloc, image) {

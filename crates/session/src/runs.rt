@@ -35,6 +35,14 @@ pub(crate) struct Run<'a> {
     pub frontier: &'a [u64],
 }
 
+/// A run whose frontier lies below a number of vertices.
+#[derive(Clone, Copy)]
+struct RunWithin<'a> {
+    run: Run<'a>,
+    vertices: u32,
+    ghost below: { list_all (λ v. nat_lt v vertices) run.frontier.now ≡ true },
+}
+
 /// The vertices whose edges are mapped: those of the frontier, which lie below a number of vertices, or
 /// all of the version.
 pub(crate) fn vertices_of(
@@ -71,20 +79,19 @@ fn answer_to<'a>(
     })
 }
 
-/// Maps a program over the edges of a pin. The frontier lies below a number of vertices.
+/// Maps a program over the edges of a pin.
 fn map_pin<'a, Ga: Gate, R: Threads + Wait>(
     crew: &Crew<'_, R, Ga>,
     alloc: Global,
-    run: &Run<'a>,
-    vertices: u32,
+    within: &RunWithin<'a>,
     program: &Verified,
     pin: &Pin,
 ) -> Result<Answer<'a>, CommandError>
-    requires { list_all (λ v. nat_lt v vertices) run.now.frontier.now ≡ true }
-    ensures { (s : SessionState) → Performs (map_response run.now.program.now run.now.pin.now run.now.reduction
-        run.now.argument.now run.now.frontier.now program.now pin.now.past s) result s s }
+    ensures { (s : SessionState) → let run = within.now.run in Performs (map_response run.program.now run.pin.now
+        run.reduction run.argument.now run.frontier.now program.now pin.now.past s) result s s }
 {
-    let frontier = vertices_of(alloc, pin.version(), run.frontier, vertices)?;
+    let run = within.run;
+    let frontier = vertices_of(alloc, pin.version(), run.frontier, within.vertices)?;
     let request = MapRequest {
         program,
         argument: run.argument,
@@ -92,26 +99,24 @@ fn map_pin<'a, Ga: Gate, R: Threads + Wait>(
         reduction: run.reduction,
     };
     let told = map_sources(crew, alloc, pin, &request);
-    answer_to(run, told)
+    answer_to(&run, told)
 }
 
 /// Maps a program over the edges of a pin, where both are there.
 fn map_found<'a, Ga: Gate, R: Threads + Wait>(
     crew: &Crew<'_, R, Ga>,
     alloc: Global,
-    run: &Run<'a>,
-    vertices: u32,
+    within: &RunWithin<'a>,
     program: Option<&Arc<Verified>>,
     pin: Option<&Pin>,
 ) -> Result<Answer<'a>, CommandError>
-    requires { list_all (λ v. nat_lt v vertices) run.now.frontier.now ≡ true }
-    ensures { (s : SessionState) → Performs (found_response run.now.program.now run.now.pin.now run.now.reduction
-        run.now.argument.now run.now.frontier.now (program_of program.entry) (past_of pin.entry) s) result s s }
+    ensures { (s : SessionState) → let run = within.now.run in Performs (found_response run.program.now run.pin.now
+        run.reduction run.argument.now run.frontier.now (program_of program.entry) (past_of pin.entry) s) result s s }
 {
     let (Some(program), Some(pin)) = (program, pin) else {
         return Err(CommandError::Fault(Fault::Name));
     };
-    map_pin(crew, alloc, run, vertices, program, pin)
+    map_pin(crew, alloc, within, program, pin)
 }
 
 impl Session {
@@ -133,6 +138,10 @@ impl Session {
         }
         let program = find_program(&self.programs, run.program);
         let pin = find_pin(&self.pins, run.pin);
-        map_found(crew, self.alloc, run, vertices, program, pin)
+        let within = RunWithin {
+            run: *run,
+            vertices,
+        };
+        map_found(crew, self.alloc, &within, program, pin)
     }
 }

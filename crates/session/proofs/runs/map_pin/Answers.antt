@@ -8,7 +8,7 @@ use Rattle.session.proofs.runs.map_pin.Goals as goal
 
 pub returns : goal.returns
 returns g c s =
-    let run = c.args.run.now in
+    let run = c.args.within.now.run in
     let past = c.args.pin.now.past in
     let frontier : c.deref.result.now ≡ frontier_of run.frontier.now (graph_of past) = c.deref.ensures.value ∙ c.in_ok-frontier.ensures ∙ ap (λ (p : Past). frontier_of run.frontier.now (graph_of p)) c.version.ensures in
     let mapped = subst (λ (f : List ℕ). IsMapped OfSources c.args.program.now (graph_of past) run.reduction run.argument.now f c.map_sources-told.result) frontier c.map_sources-told.ensures in
