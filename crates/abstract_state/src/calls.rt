@@ -66,7 +66,8 @@ fn open_callees(alloc: Global, called: Option<Box<Callees>>) -> Result<Box<Calle
 /// The registers where a function begins whose frame has a number: R1 to R5 stay, and R10 is the frame's top.
 fn begin_registers(registers: &mut [AbstractValue; 11], frame: u8)
     ensures { registers.new ≡ Unset ∷ slice_index_or registers.old 1 Unset ∷ slice_index_or registers.old 2 Unset
-        ∷ slice_index_or registers.old 3 Unset ∷ slice_index_or registers.old 4 Unset ∷ slice_index_or registers.old 5 Unset
+        ∷ slice_index_or registers.old 3 Unset ∷ slice_index_or registers.old 4 Unset
+        ∷ slice_index_or registers.old 5 Unset
         ∷ Unset ∷ Unset ∷ Unset ∷ Unset ∷ Stack frame (pos 0) ∷ [] }
 {
     registers[0] = AbstractValue::Unset;
@@ -197,7 +198,8 @@ fn leave_place(called: Option<Box<Callees>>, at: usize) -> Option<Box<Callees>>
 /// R10 is the frame's top.
 fn end_registers(registers: &mut [AbstractValue; 11], kept: [AbstractValue; 4], frame: u8)
     ensures { registers.new ≡ slice_index_or registers.old 0 Unset ∷ Unset ∷ Unset ∷ Unset ∷ Unset ∷ Unset
-        ∷ slice_index_or kept 0 Unset ∷ slice_index_or kept 1 Unset ∷ slice_index_or kept 2 Unset ∷ slice_index_or kept 3 Unset
+        ∷ slice_index_or kept 0 Unset ∷ slice_index_or kept 1 Unset ∷ slice_index_or kept 2 Unset
+        ∷ slice_index_or kept 3 Unset
         ∷ Stack frame (pos 0) ∷ [] }
 {
     registers[1] = AbstractValue::Unset;

@@ -200,7 +200,8 @@ fn fill_called(called: &mut Places, at: usize, place: i32, room: usize) -> Resul
 fn fill_stack(state: &mut AbstractState, frame: u8, place: i32, room: usize) -> Result<(), Cause>
     requires some { 1 ≤ room }
     requires few { room ≤ FRAME_BYTES }
-    ensures filled { frame_gather_result state.old frame (frame_of state.old frame) place room ≡ store_answer result state.new }
+    ensures filled { frame_gather_result state.old frame (frame_of state.old frame) place room
+        ≡ store_answer result state.new }
     ensures unchanged { IfErr result (λ cause. state.new ≡ state.old) }
 {
     if frame == 0 {

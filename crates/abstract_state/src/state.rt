@@ -146,7 +146,8 @@ impl AbstractState {
 
     /// What is known of the bytes of a frame, if it is live. Frame 0 is the program's own.
     pub fn frame(&self, number: u8) -> Option<&Frame>
-        ensures { MatchOption result (frame_of self.now number ≡ None) (λ frame. frame_of self.now number ≡ Some frame.now) }
+        ensures { MatchOption result (frame_of self.now number ≡ None) (λ frame. frame_of self.now number
+            ≡ Some frame.now) }
     {
         if number == 0 {
             return Some(&self.own.frame);

@@ -18,14 +18,16 @@ pub struct Cores<'a> {
 /// Whether a vertex is another one, whose core number is no less.
 fn is_as_high(cores: &Cores<'_>, vertex: u32, other: u32) -> bool
     ensures { let c = cores.now in
-        result ≡ (is_at_least (slice_index c.numbers.now vertex) (slice_index c.numbers.now other) && not (other == vertex)) }
+        result ≡ (is_at_least (slice_index c.numbers.now vertex) (slice_index c.numbers.now other)
+        && not (other == vertex)) }
 {
     entry_at(cores.numbers, other) >= entry_at(cores.numbers, vertex) && other != vertex
 }
 
 /// Whether a vertex is another one, which comes after the first.
 fn comes_after(cores: &Cores<'_>, vertex: u32, other: u32) -> bool
-    ensures { let c = cores.now in result ≡ (is_after c.numbers.now c.places.now vertex other && not (other == vertex)) }
+    ensures { let c = cores.now in result ≡ (is_after c.numbers.now c.places.now vertex other
+        && not (other == vertex)) }
 {
     let (own, its) = (
         entry_at(cores.numbers, vertex),
@@ -38,8 +40,10 @@ fn comes_after(cores: &Cores<'_>, vertex: u32, other: u32) -> bool
 
 /// Whether a vertex has enough edges to others whose core numbers are no less, and no more to others that come after it.
 fn has_its_core<G: GraphView>(graph: &G, cores: &Cores<'_>, vertex: u32) -> bool
-    ensures yes { let c = cores.now in result ≡ true → HasItsCore (G.graph graph.now) c.numbers.now c.places.now vertex }
-    ensures no { let c = cores.now in result ≡ false → HasItsCore (G.graph graph.now) c.numbers.now c.places.now vertex → ⊥ }
+    ensures yes { let c = cores.now in result ≡ true
+        → HasItsCore (G.graph graph.now) c.numbers.now c.places.now vertex }
+    ensures no { let c = cores.now in result ≡ false → HasItsCore (G.graph graph.now) c.numbers.now c.places.now vertex
+        → ⊥ }
 {
     let (mut enough, mut few) = (0_u32, 0_u32);
     for place in 0..graph.degree(u64::from(vertex)) {

@@ -34,7 +34,8 @@ fn entry_at(entries: &[u32], vertex: u32) -> u32
 /// Whether a vertex has a level, which is at most one further than another.
 fn is_near(levels: &[u32], level: u32, vertex: u32) -> bool
     ensures yes { result ≡ true → (entry_of levels.now vertex < not_found) × (entry_of levels.now vertex ≤ level + 1) }
-    ensures no { result ≡ false → (entry_of levels.now vertex < not_found) × (entry_of levels.now vertex ≤ level + 1) → ⊥ }
+    ensures no { result ≡ false → (entry_of levels.now vertex < not_found) × (entry_of levels.now vertex ≤ level + 1)
+        → ⊥ }
 {
     let own = entry_at(levels, vertex);
     own != NOT_FOUND && u64::from(own) <= u64::from(level) + 1

@@ -26,7 +26,8 @@ fn made_by<Ga: Gate, R: Threads + Wait>(
     deal: Deal<'_>,
 ) -> Result<Vec<Vec<EditedShard>>, WorkError>
     requires { 0 < deal.step }
-    ensures dealt { IfOk result (λ lists. AreDealt deal.entry.table.now deal.entry.pieces.now deal.entry.step lists.items) }
+    ensures dealt { IfOk result (λ lists. AreDealt deal.entry.table.now deal.entry.pieces.now deal.entry.step
+        lists.items) }
     ensures all { IfOk result (λ lists. length lists.items ≡ deal.entry.step) }
 {
     let rt = crew.rt;

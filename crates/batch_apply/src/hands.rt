@@ -46,7 +46,8 @@ pub(crate) fn work<Ga: Gate>(
     first: usize,
 ) -> Result<Vec<EditedShard>, AllocError>
     requires { first < deal.step }
-    ensures { IfOk result (λ made. IsDealt deal.entry.table.now deal.entry.pieces.now first deal.entry.step made.items) }
+    ensures { IfOk result (λ made. IsDealt deal.entry.table.now deal.entry.pieces.now first deal.entry.step
+        made.items) }
 {
     let Deal {
         table,
@@ -78,7 +79,8 @@ pub(crate) fn spread<'s, E, Ga: Gate, R: Threads>(
     bound: usize,
 ) -> Result<Vec<Vec<EditedShard>>, WorkError>
     requires { bound ≤ deal.step }
-    ensures dealt { IfOk result (λ lists. AreDealt deal.entry.table.now deal.entry.pieces.now deal.entry.step lists.items) }
+    ensures dealt { IfOk result (λ lists. AreDealt deal.entry.table.now deal.entry.pieces.now deal.entry.step
+        lists.items) }
     ensures all { IfOk result (λ lists. length lists.items ≡ bound) }
 {
     if bound == 0 {

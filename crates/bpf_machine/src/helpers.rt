@@ -45,7 +45,8 @@ fn go_on_with(machine: &mut Machine, value: u64) -> Turn
     requires { machine.old.pc ≤ℤ pos MOST_UNITS }
     ensures went { result ≡ Turn.Went }
     ensures step { (bytes table : List ℕ)
-        → Goes (with_answer (state_of machine.old bytes table) value) ≡ answer result (state_of machine.new bytes table) }
+        → Goes (with_answer (state_of machine.old bytes table) value)
+        ≡ answer result (state_of machine.new bytes table) }
 {
     machine.registers = registers_behind(&machine.registers, value);
     machine.pc += 1;

@@ -118,7 +118,8 @@ impl Machine {
     pub(crate) fn jump(&mut self, distance: i32) -> Turn
         requires from { pos 0 ≤ℤ self.old.pc }
         requires limit { self.old.pc ≤ℤ pos MOST_UNITS }
-        ensures { (bytes table : List ℕ) → jump (state_of self.old bytes table) distance ≡ answer result (state_of self.new bytes table) }
+        ensures { (bytes table : List ℕ) → jump (state_of self.old bytes table) distance
+            ≡ answer result (state_of self.new bytes table) }
     {
         self.pc = self.pc + 1 + i64::from(distance);
         Turn::Went

@@ -86,7 +86,8 @@ pub(crate) fn store_to(
 ) -> Turn
     requires pc { machine.old.pc ≤ℤ pos MOST_UNITS }
     requires record { length bytes.old ≤ MOST_RECORD_LENGTH }
-    ensures step { store (lent bytes.old table.now) (state_of machine.old bytes.old table.now) place.address place.size value
+    ensures step { store (lent bytes.old table.now)
+        (state_of machine.old bytes.old table.now) place.address place.size value
         ≡ answer result (state_of machine.new bytes.new table.now) }
     ensures kept { Keeps result bytes.old bytes.new }
 {

@@ -28,8 +28,10 @@ pub extern "C" fn edgebpf_pull(
 ) -> u32
     ensures version { version.new.held ≡ version.old.held }
     ensures program { program.new.held ≡ program.old.held }
-    ensures answered { OnBoth version.old.held program.old.held result ((values.new ≡ values.old) × (totals.new ≡ totals.old))
-        (λ past p. IsPull (graph_of past) p (inputs_from argument.now columns.now) frontier.now reduction result values.old totals.old values.new totals.new) }
+    ensures answered { OnBoth version.old.held program.old.held result ((values.new ≡ values.old)
+        × (totals.new ≡ totals.old))
+        (λ past p. IsPull (graph_of past) p (inputs_from argument.now columns.now) frontier.now reduction result
+        values.old totals.old values.new totals.new) }
 {
     let Some(graph) = version.take(alloc) else {
         return EMPTY;
@@ -66,7 +68,8 @@ pub extern "C" fn edgebpf_pull_some(
     ensures version { version.new.held ≡ version.old.held }
     ensures program { program.new.held ≡ program.old.held }
     ensures answered { OnBoth version.old.held program.old.held result ((values.new ≡ values.old) × (at.new ≡ at.old))
-        (λ past p. IsPullSome (graph_of past) p (inputs_from argument.now columns.now) frontier.now reduction result at.old at.new values.old values.new) }
+        (λ past p. IsPullSome (graph_of past) p (inputs_from argument.now columns.now) frontier.now reduction result
+        at.old at.new values.old values.new) }
 {
     let Some(graph) = version.take(alloc) else {
         return EMPTY;
@@ -104,7 +107,9 @@ pub extern "C" fn edgebpf_numbers_of(
     ensures program { program.new.held ≡ program.old.held }
     ensures answered { OnBoth version.old.held program.old.held result
         ((numbers.new ≡ numbers.old) × (written.new ≡ written.old) × (at.new ≡ at.old))
-        (λ past p. AreNumbersWith (graph_of past) p (inputs_from argument.now columns.now) frontier.now result at.old at.new numbers.old numbers.new written.old written.new) }
+        (λ past p. AreNumbersWith (graph_of past) p
+        (inputs_from argument.now columns.now) frontier.now result at.old at.new numbers.old numbers.new written.old
+        written.new) }
 {
     let Some(graph) = version.take(alloc) else {
         return EMPTY;
@@ -140,7 +145,8 @@ pub extern "C" fn edgebpf_pairs_of(
     ensures version { version.new.held ≡ version.old.held }
     ensures program { program.new.held ≡ program.old.held }
     ensures answered { OnBoth version.old.held program.old.held result ((numbers.new ≡ numbers.old) × (at.new ≡ at.old))
-        (λ past p. ArePairsWith (graph_of past) p (inputs_from argument.now columns.now) sources.now targets.now result at.old at.new numbers.old numbers.new) }
+        (λ past p. ArePairsWith (graph_of past) p (inputs_from argument.now columns.now) sources.now targets.now result
+        at.old at.new numbers.old numbers.new) }
 {
     let Some(graph) = version.take(alloc) else {
         return EMPTY;

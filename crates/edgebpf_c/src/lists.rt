@@ -22,7 +22,8 @@ pub extern "C" fn edgebpf_version_lists(
     ensures kept { version.new.held ≡ version.old.held }
     ensures answered { OnVersion version.old.held result ((starts.new ≡ starts.old) × (targets.new ≡ targets.old)
         × (count.new ≡ count.old))
-        (λ past. AreLists (graph_of past) frontier.now result starts.old targets.old count.old starts.new targets.new count.new) }
+        (λ past. AreLists (graph_of past) frontier.now result starts.old targets.old count.old starts.new targets.new
+        count.new) }
 {
     match version.take(alloc) {
         None => EMPTY,

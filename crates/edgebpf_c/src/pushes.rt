@@ -24,8 +24,10 @@ pub extern "C" fn edgebpf_push(
 ) -> u32
     ensures version { version.new.held ≡ version.old.held }
     ensures program { program.new.held ≡ program.old.held }
-    ensures answered { OnBoth version.old.held program.old.held result ((values.new ≡ values.old) × (totals.new ≡ totals.old))
-        (λ past p. IsPush (graph_of past) p (inputs_from argument.now columns.now) frontier.now reduction result values.old totals.old values.new totals.new) }
+    ensures answered { OnBoth version.old.held program.old.held result ((values.new ≡ values.old)
+        × (totals.new ≡ totals.old))
+        (λ past p. IsPush (graph_of past) p (inputs_from argument.now columns.now) frontier.now reduction result
+        values.old totals.old values.new totals.new) }
 {
     let Some(graph) = version.take(alloc) else {
         return EMPTY;
@@ -61,7 +63,8 @@ pub extern "C" fn edgebpf_push_some(
     ensures version { version.new.held ≡ version.old.held }
     ensures program { program.new.held ≡ program.old.held }
     ensures answered { OnBoth version.old.held program.old.held result ((values.new ≡ values.old) × (at.new ≡ at.old))
-        (λ past p. IsPushSome (graph_of past) p (inputs_from argument.now columns.now) frontier.now reduction result at.old at.new values.old values.new) }
+        (λ past p. IsPushSome (graph_of past) p (inputs_from argument.now columns.now) frontier.now reduction result
+        at.old at.new values.old values.new) }
 {
     let Some(graph) = version.take(alloc) else {
         return EMPTY;

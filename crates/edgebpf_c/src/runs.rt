@@ -25,8 +25,10 @@ pub extern "C" fn edgebpf_run(
 ) -> u32
     ensures version { version.new.held ≡ version.old.held }
     ensures program { program.new.held ≡ program.old.held }
-    ensures answered { OnBoth version.old.held program.old.held result ((values.new ≡ values.old) × (totals.new ≡ totals.old))
-        (λ past p. IsRun (graph_of past) p argument.now frontier.now reduction result values.old totals.old values.new totals.new) }
+    ensures answered { OnBoth version.old.held program.old.held result ((values.new ≡ values.old)
+        × (totals.new ≡ totals.old))
+        (λ past p. IsRun (graph_of past) p argument.now frontier.now reduction result values.old totals.old values.new
+        totals.new) }
 {
     edgebpf_pull(
         alloc,
@@ -56,7 +58,8 @@ pub extern "C" fn edgebpf_run_some(
     ensures version { version.new.held ≡ version.old.held }
     ensures program { program.new.held ≡ program.old.held }
     ensures answered { OnBoth version.old.held program.old.held result ((values.new ≡ values.old) × (at.new ≡ at.old))
-        (λ past p. IsRunSome (graph_of past) p argument.now frontier.now reduction result at.old at.new values.old values.new) }
+        (λ past p. IsRunSome (graph_of past) p argument.now frontier.now reduction result at.old at.new values.old
+        values.new) }
 {
     edgebpf_pull_some(
         alloc,
@@ -114,7 +117,8 @@ pub extern "C" fn edgebpf_numbers_some(
     ensures program { program.new.held ≡ program.old.held }
     ensures answered { OnBoth version.old.held program.old.held result
         ((numbers.new ≡ numbers.old) × (written.new ≡ written.old) × (at.new ≡ at.old))
-        (λ past p. AreNumbersSome (graph_of past) p argument.now frontier.now result at.old at.new numbers.old numbers.new written.old written.new) }
+        (λ past p. AreNumbersSome (graph_of past) p argument.now frontier.now result at.old at.new numbers.old
+        numbers.new written.old written.new) }
 {
     edgebpf_numbers_of(
         alloc,
@@ -144,7 +148,8 @@ pub extern "C" fn edgebpf_pairs(
     ensures version { version.new.held ≡ version.old.held }
     ensures program { program.new.held ≡ program.old.held }
     ensures answered { OnBoth version.old.held program.old.held result ((numbers.new ≡ numbers.old) × (at.new ≡ at.old))
-        (λ past p. ArePairs (graph_of past) p argument.now sources.now targets.now result at.old at.new numbers.old numbers.new) }
+        (λ past p. ArePairs (graph_of past) p argument.now sources.now targets.now result at.old at.new numbers.old
+        numbers.new) }
 {
     edgebpf_pairs_of(
         alloc,

@@ -73,7 +73,8 @@ pub extern "C" fn edgebpf_store_apply(
     removes: &[u8],
     change: &mut Change,
 ) -> u32
-    ensures { IsAppliedTo feed sources.now targets.now removes.now store.old.held result store.new.held change.old change.new }
+    ensures { IsAppliedTo feed sources.now targets.now removes.now store.old.held result store.new.held change.old
+        change.new }
 {
     let arrays = Arrays {
         sources,

@@ -79,7 +79,8 @@ pub fn lists_held(
 ) -> u32
     ensures { OnVersion (Some held.now) result ((starts.new ≡ starts.old) × (targets.new ≡ targets.old)
         × (count.new ≡ count.old))
-        (λ past. AreLists (graph_of past) frontier.now result starts.old targets.old count.old starts.new targets.new count.new) }
+        (λ past. AreLists (graph_of past) frontier.now result starts.old targets.old count.old starts.new targets.new
+        count.new) }
 {
     match held {
         Held::Version(version) => copy_frontier(version, frontier, starts, targets, count),

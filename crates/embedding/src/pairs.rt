@@ -74,7 +74,8 @@ pub fn pairs_held(
     ensures program { code.new ≡ code.old }
     ensures answered { OnBoth (Some graph.now) (Some code.old) result ((numbers.new ≡ numbers.old) × (progress.new
         ≡ progress.old))
-        (λ past p. ArePairsWith (graph_of past) p (lent_of asked.now.lent) asked.now.sources.now asked.now.targets.now result
+        (λ past p. ArePairsWith (graph_of past) p (lent_of asked.now.lent) asked.now.sources.now asked.now.targets.now
+        result
         progress.old progress.new numbers.old numbers.new) }
 {
     let version = match graph {

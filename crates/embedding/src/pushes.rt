@@ -79,7 +79,8 @@ pub fn push_held(
     ensures program { code.new ≡ code.old }
     ensures answered { OnBoth (Some graph.now) (Some code.old) result ((values.new ≡ values.old) × (totals.new
         ≡ totals.old))
-        (λ past p. IsPush (graph_of past) p (lent_of asked.now.lent) asked.now.frontier.now asked.now.reduction result values.old totals.old values.new totals.new) }
+        (λ past p. IsPush (graph_of past) p (lent_of asked.now.lent) asked.now.frontier.now asked.now.reduction result
+        values.old totals.old values.new totals.new) }
 {
     let version = match graph {
         Held::Version(version) => version,
@@ -147,7 +148,8 @@ pub fn push_some_held(
     ensures program { code.new ≡ code.old }
     ensures answered { OnBoth (Some graph.now) (Some code.old) result ((values.new ≡ values.old) × (progress.new
         ≡ progress.old))
-        (λ past p. IsPushSome (graph_of past) p (lent_of asked.now.lent) asked.now.frontier.now asked.now.reduction result progress.old progress.new values.old values.new) }
+        (λ past p. IsPushSome (graph_of past) p (lent_of asked.now.lent) asked.now.frontier.now asked.now.reduction
+        result progress.old progress.new values.old values.new) }
 {
     let version = match graph {
         Held::Version(version) => version,

@@ -110,11 +110,13 @@ impl Runnable {
         requires long { length values.old ≡ length request.now.frontier.now }
         ensures program { self.new ≡ self.old }
         ensures values { let p = self.old in let g = graph_of on.now.version.now in
-            values.new ≡ values_for p (longest p) g request.now.reduction (lent_of on.now.lent) request.now.frontier.now }
+            values.new ≡ values_for p (longest p) g request.now.reduction
+            (lent_of on.now.lent) request.now.frontier.now }
         ensures edges { let p = self.old in let g = graph_of on.now.version.now in
             result.edges ≡ length (all_with p (longest p) g (lent_of on.now.lent) request.now.frontier.now) }
         ensures total { let p = self.old in let g = graph_of on.now.version.now in result.total
-            ≡ reduction_of_numbers request.now.reduction (all_with p (longest p) g (lent_of on.now.lent) request.now.frontier.now) }
+            ≡ reduction_of_numbers request.now.reduction
+            (all_with p (longest p) g (lent_of on.now.lent) request.now.frontier.now) }
     {
         let mapped = Mapped {
             version: on.version,
@@ -169,11 +171,13 @@ impl Runnable {
         requires long { length values.old ≡ (graph_of on.now.version.now).vertex_count }
         ensures program { self.new ≡ self.old }
         ensures values { let p = self.old in let g = graph_of on.now.version.now in values.new
-            ≡ pushed_edges p (longest p) g request.now.reduction (lent_of on.now.lent) request.now.frontier.now values.old }
+            ≡ pushed_edges p (longest p) g request.now.reduction
+            (lent_of on.now.lent) request.now.frontier.now values.old }
         ensures edges { let p = self.old in let g = graph_of on.now.version.now in
             result.edges ≡ length (all_with p (longest p) g (lent_of on.now.lent) request.now.frontier.now) }
         ensures total { let p = self.old in let g = graph_of on.now.version.now in result.total
-            ≡ reduction_of_numbers request.now.reduction (all_with p (longest p) g (lent_of on.now.lent) request.now.frontier.now) }
+            ≡ reduction_of_numbers request.now.reduction
+            (all_with p (longest p) g (lent_of on.now.lent) request.now.frontier.now) }
     {
         let mapped = Mapped {
             version: on.version,
@@ -198,8 +202,10 @@ impl Runnable {
         requires place { IsPlace (graph_of on.now.version.now) request.now.frontier.now progress.old }
         ensures program { self.new ≡ self.old }
         ensures so_far { let p = self.old in let g = graph_of on.now.version.now in let f = request.now.frontier.now in
-            (first : List ℕ) → HasBegunPush p (longest p) g request.now.reduction (lent_of on.now.lent) f progress.old first values.old
-            → IsPushedSoFar p (longest p) g request.now.reduction (lent_of on.now.lent) f progress.new first values.new }
+            (first : List ℕ) → HasBegunPush p (longest p) g request.now.reduction
+            (lent_of on.now.lent) f progress.old first values.old
+            → IsPushedSoFar p (longest p) g request.now.reduction
+            (lent_of on.now.lent) f progress.new first values.new }
         ensures place { IsPlace (graph_of on.now.version.now) request.now.frontier.now progress.new }
         ensures on { progress.old.vertex < length request.now.frontier.now → IsBefore progress.old progress.new }
         ensures stops { (progress.new.vertex ≡ length request.now.frontier.now) ⊎ (progress.new.budget ≡ 0) }
@@ -251,7 +257,8 @@ impl Runnable {
         ensures program { self.new ≡ self.old }
         ensures numbers { let p = self.old in let g = graph_of on.now.version.now in
             numbers_before p (longest p) g (lent_of on.now.lent) frontier.now progress.new
-            ≡ numbers_before p (longest p) g (lent_of on.now.lent) frontier.now progress.old ++ take result numbers.new }
+            ≡ numbers_before p (longest p) g (lent_of on.now.lent) frontier.now progress.old
+            ++ take result numbers.new }
         ensures rest { drop result numbers.new ≡ drop result numbers.old }
         ensures room { result ≤ length numbers.old }
         ensures edges { progress.new.edges ≡ (progress.old.edges + result) % 2 ^ 64 }
@@ -263,7 +270,8 @@ impl Runnable {
             ≡ length numbers.old) }
         ensures cost { let most = most_of (graph_of on.now.version.now) self.old (lent_of on.now.lent) frontier.now in
             progress.old.budget + most progress.old ≤ progress.new.budget + most progress.new }
-        ensures falls { let least = least_of (graph_of on.now.version.now) self.old (lent_of on.now.lent) frontier.now in
+        ensures falls { let least = least_of (graph_of on.now.version.now) self.old
+            (lent_of on.now.lent) frontier.now in
             progress.new.budget ≤ progress.old.budget + least progress.old - least progress.new }
     {
         let mapped = Mapped {

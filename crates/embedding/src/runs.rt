@@ -102,7 +102,8 @@ pub fn run_held(
     ensures program { code.new ≡ code.old }
     ensures answered { OnBoth (Some graph.now) (Some code.old) result ((values.new ≡ values.old) × (totals.new
         ≡ totals.old))
-        (λ past p. IsPull (graph_of past) p (lent_of asked.now.lent) asked.now.frontier.now asked.now.reduction result values.old totals.old values.new totals.new) }
+        (λ past p. IsPull (graph_of past) p (lent_of asked.now.lent) asked.now.frontier.now asked.now.reduction result
+        values.old totals.old values.new totals.new) }
 {
     let version = match graph {
         Held::Version(version) => version,
@@ -171,7 +172,8 @@ pub fn run_some_held(
     ensures program { code.new ≡ code.old }
     ensures answered { OnBoth (Some graph.now) (Some code.old) result ((values.new ≡ values.old) × (progress.new
         ≡ progress.old))
-        (λ past p. IsPullSome (graph_of past) p (lent_of asked.now.lent) asked.now.frontier.now asked.now.reduction result progress.old progress.new values.old values.new) }
+        (λ past p. IsPullSome (graph_of past) p (lent_of asked.now.lent) asked.now.frontier.now asked.now.reduction
+        result progress.old progress.new values.old values.new) }
 {
     let version = match graph {
         Held::Version(version) => version,

@@ -112,7 +112,8 @@ fn store_of_sorted(
 ) -> u32
     requires count { IsVertexCount vertex_count }
     requires sorted { AreSorted vertex_count starts.now targets.now }
-    ensures { IsHandedOut result (HoldsStore out.new.held (past_of vertex_count starts.now targets.now)) (out.new.held ≡ out.old.held) }
+    ensures { IsHandedOut result (HoldsStore out.new.held (past_of vertex_count starts.now targets.now)) (out.new.held
+        ≡ out.old.held) }
 {
     match Store::of_lists(alloc, vertex_count, starts, targets) {
         Ok(store) => hand_out(alloc, Held::Store(store), out),

@@ -177,7 +177,8 @@ fn put_pc(
 #[tactic(auto, using(crate::proofs::Written::pieces_none, crate::proofs::Written::written_more, crate::proofs::Starts::at_first))]
 pub(crate) fn put_listing(text: &mut String, listing: &Listing<'_>) -> Result<(), AllocError>
     ensures { OnOk result (string_bytes text.new ≡ string_bytes text.old
-        ++ pieces_to (pc_text listing.now.image.now listing.now.source.now listing.now.judgement listing.now.passages.now)
+        ++ pieces_to (pc_text listing.now.image.now listing.now.source.now listing.now.judgement
+        listing.now.passages.now)
         (units listing.now.image.now)) }
 {
     let mut cursor = Cursor::first();

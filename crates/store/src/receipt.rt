@@ -82,7 +82,8 @@ impl Receipt {
 
     /// The batch. A rebase has none.
     pub fn batch(&self) -> Option<&Batch>
-        ensures { MatchOption result (self.now.entry ≡ None) (λ batch. option_map (λ entry. entry.batch) self.now.entry ≡ Some batch.now) }
+        ensures { MatchOption result (self.now.entry ≡ None) (λ batch. option_map (λ entry. entry.batch) self.now.entry
+            ≡ Some batch.now) }
     {
         match &self.change {
             None => None,

@@ -36,7 +36,8 @@ impl Model for Recorded {
 
     ghost view = { λ r. moment_in (arc_value r.version) r.known };
 
-    ghost invariant = { λ r. (moment_of (arc_value r.version).vertex_count r.known ≡ moment_in (arc_value r.version) r.known)
+    ghost invariant = { λ r. (moment_of (arc_value r.version).vertex_count r.known
+        ≡ moment_in (arc_value r.version) r.known)
         × (r.count ≡ count_of r.known) × AreFew (arc_value r.version) r.count };
 }
 

@@ -91,9 +91,11 @@ pub(crate) fn values(alloc: Global, operands: &[u8]) -> Result<Option<Statement<
 }
 
 fn lending_words(operands: &[u8]) -> Option<LendingWords<'_>>
-    ensures { (to : List ℕ → Asked → Option SaidStatement) → MatchOption result (lending_statement to (words operands.now) ≡ None)
+    ensures { (to : List ℕ → Asked → Option SaidStatement)
+        → MatchOption result (lending_statement to (words operands.now) ≡ None)
         (λ found. lending_statement to (words operands.now)
-        ≡ option_then (asked_of found.program.now found.pin.now found.reduction found.digits.now found.names.now (words found.frontier.now))
+        ≡ option_then (asked_of found.program.now found.pin.now found.reduction found.digits.now found.names.now
+        (words found.frontier.now))
         (to found.into.now)) }
 {
     let (program, rest) = next_word(operands)?;
@@ -119,7 +121,8 @@ fn lending_words(operands: &[u8]) -> Option<LendingWords<'_>>
 /// What a command that lends columns asks for.
 fn asking<'a>(alloc: Global, found: &LendingWords<'a>) -> Result<Option<Asking<'a>>, AllocError>
     ensures { IfOk result (λ asking. let w = found.now in option_map said_asked asking
-        ≡ option_map cut_asked (asked_of w.program.now w.pin.now w.reduction w.digits.now w.names.now (words w.frontier.now))) }
+        ≡ option_map cut_asked (asked_of w.program.now w.pin.now w.reduction w.digits.now w.names.now
+        (words w.frontier.now))) }
 {
     let Some(argument) = hex(alloc, found.digits)? else {
         return Ok(None);

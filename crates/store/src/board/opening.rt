@@ -85,7 +85,8 @@ fn seat_all(
     requires knows { (board_view_of writer.old.desk.place).knows ≡ true }
     ensures knows { IfOk result (λ inner. board_view_of inner.place ≡ board_view_of writer.old.desk.place) }
     ensures pass { IfOk result (λ _. IsPassOf pool.now membership.new) }
-    ensures member { IfOk result (λ _. member_of membership.new ≡ member (board_view_of writer.old.desk.place).version) }
+    ensures member { IfOk result (λ _. member_of membership.new
+        ≡ member (board_view_of writer.old.desk.place).version) }
     ensures shown { IfOk result (λ _. writer.new.desk.shown ≡ writer.old.desk.shown) }
     ensures log { IfOk result (λ _. (writer.new.log ≡ writer.old.log) × (writer.new.behind ≡ writer.old.behind)) }
     ensures known { IfOk result (λ _. board_view_of writer.new.desk.place ≡ board_view_of writer.old.desk.place) }

@@ -60,7 +60,8 @@ fn take_in(queue: &Queue, pass: &mut Seat, feed: Feed)
 // What the queue holds, put after `left`, once the feeds have ended.
 fn all_left<R: Wait>(queue: &Queue, mut pass: Seat, mut left: Vec<Entry>, rt: &R) -> Vec<Entry>
     requires pass { IsPassOf queue.now pass }
-    requires ended { queue_view_of pass ≡ taker (queue_view_of pass).vertex_count (queue_view_of pass).taken FEEDS (queue_view_of pass).ended }
+    requires ended { queue_view_of pass ≡ taker (queue_view_of pass).vertex_count (queue_view_of pass).taken FEEDS
+        (queue_view_of pass).ended }
     requires both { length (queue_view_of pass).ended ≡ FEEDS }
     requires room { (left.items ≡ []) × (QUEUE_PLACES ≤ vec_capacity left) }
     ensures { Left (queue_view_of pass) result.items }
