@@ -452,6 +452,15 @@ class Pieces(WithStores):
         # Of few pairs the degrees are asked for one by one.
         self.same(algorithms.pair_scores(version, sources[:40], targets[:40], "adamic_adar"), scores[:40], "few pairs")
 
+    def test_threads_end_before_an_interrupt_is_told(self):
+        """Who waits for threads and is interrupted has none of them at work any more."""
+        crew, before = companion.Crew([(place, place + 1) for place in range(100)], lambda: lambda *_: time.sleep(0.1)), threading.active_count()
+        pieces = crew.finished(3, 100)
+        next(pieces)
+        self.assertEqual(threading.active_count(), before + 3)
+        pieces.close()
+        self.assertEqual(threading.active_count(), before)
+
     def test_interrupted(self):
         """A Ctrl-C comes through within a second, also while threads share the work."""
         version = self.large(262_144, 1_500_000)

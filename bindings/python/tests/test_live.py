@@ -154,6 +154,29 @@ class Live(unittest.TestCase):
             writer.join()
         self.assertEqual((live.numbered()[0], live.latest().run(target).total), (2, 5))
 
+    def test_a_close_waits_for_a_batch(self):
+        """A batch that is being applied as another thread closes the graph is applied whole, and answered."""
+        live, real, counts = edgebpf.Live(4), edgebpf.Store._edited, []
+        begun, go_on = threading.Event(), threading.Event()
+
+        def slow(*given):
+            begun.set()
+            go_on.wait(20)
+            return real(*given)
+
+        with unittest.mock.patch.object(edgebpf.Store, "_edited", slow):
+            writer = threading.Thread(target=lambda: counts.append(live.apply([0], [2])))
+            closer = threading.Thread(target=live.close)
+            writer.start()
+            begun.wait(20)
+            closer.start()
+            closer.join(0.2)
+            self.assertTrue(closer.is_alive())
+            go_on.set()
+            writer.join()
+            closer.join()
+        self.assertEqual((counts, live.latest().edges), ([edgebpf.Counts(1, 1, 0)], 1))
+
     def test_threads(self):
         """Each version that a reader sees is whole, and numbers never go back, over rebases."""
         live, target, wrong, is_over = edgebpf.Live(64, batches=5), edgebpf.assemble(TARGET), [], threading.Event()

@@ -145,7 +145,7 @@ class Native(test_package.Package):
         store = self.store(2)
         store.batch("A", ([0], [1]))
         with store.pin() as version:
-            view = version.neighbours(0)
+            view, copied = version.neighbours(0), version.csr()
         version.close()
         for ask in (version.csr, lambda: version.run(edgebpf.assemble(TARGET)), lambda: version.neighbours(0)):
             with self.assertRaises(edgebpf.Closed):
@@ -157,7 +157,7 @@ class Native(test_package.Package):
             store.batch("A", ([0], [1]))
         with self.assertRaises(edgebpf.Closed):
             store.pin()
-        self.assertEqual((view.tolist(), pin.neighbours(0).tolist()), ([1], [1]))
+        self.assertEqual((view.tolist(), copied[1].tolist(), pin.neighbours(0).tolist()), ([1], [1], [1]))
 
     def test_views_keep_their_version(self):
         """A view stays as it is after its version and its store were closed, and memory was used again."""
