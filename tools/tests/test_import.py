@@ -240,6 +240,19 @@ class EdgebpfImport(unittest.TestCase):
                 self.assertEqual([pair for columns in batches for pair in zip(*map(numpy.ndarray.tolist, columns))], wanted)
                 self.assertEqual(made.ids is not None, most > 1 << 20)
 
+    def test_as_many_ids_as_there_may_be(self):
+        """Ids that are counted run by run may be as many as a graph has vertices, and not one more."""
+        import numpy
+        from edgebpf_tools import edge_runs, refusal
+
+        with unittest.mock.patch.object(edge_runs, "RUN_EDGES", 2), edge_runs.EdgeRuns() as runs:
+            for first in (0, 20):
+                runs.add(numpy.array([first, first]), numpy.array([first + 5, first + 7]))
+            runs.finish()
+            self.assertEqual(runs.ids("text", 6).tolist(), [0, 5, 7, 20, 25, 27])
+            with self.assertRaisesRegex(refusal.Refusal, "^text has 6 vertices at least, and a graph has at most 5$"):
+                runs.ids("text", 5)
+
     def test_a_folder_that_is_not_there(self):
         from edgebpf_tools import edge_files, edge_runs, import_edges, refusal
 
