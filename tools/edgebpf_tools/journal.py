@@ -13,7 +13,8 @@ class Journal:
     """A file that holds whole commands, from which a session can be taken up again."""
 
     def __init__(self, path, is_synced=False):
-        self.path, self.is_synced = path, is_synced
+        # Whether the disk has the file's name, too.
+        self.path, self.is_synced, self.is_named = path, is_synced, False
         self.file = open(path, "a+b", buffering=0)
         if not self._is_ours():
             self.file.close()
@@ -29,6 +30,17 @@ class Journal:
         except OSError as error:
             return not isinstance(error, BlockingIOError)
         return True
+
+    def _sync(self):
+        """Waits until the disk has the lines, and the name of a file that is new or took another's place."""
+        os.fsync(self.file.fileno())
+        if not self.is_named:
+            folder = os.open(os.path.dirname(os.path.realpath(self.path)), os.O_RDONLY | os.O_DIRECTORY)
+            try:
+                os.fsync(folder)
+            finally:
+                os.close(folder)
+            self.is_named = True
 
     def cut(self, size):
         """Keeps so many bytes of the file, which are whole lines, and returns the rest of them as text."""
@@ -55,7 +67,7 @@ class Journal:
             while written < len(text):
                 written += self.file.write(text[written:])
             if self.is_synced:
-                os.fsync(self.file.fileno())
+                self._sync()
         except OSError:
             self.file.truncate(self.size)
             raise

@@ -189,7 +189,8 @@ class EdgebpfShell(unittest.TestCase):
                 kept = Journal(str(journal), is_synced)
                 kept.add(["graph 4"])
                 kept.add(["pin a"])
-                self.assertEqual(synced.call_count, 2 * is_synced)
+                # The name of the file once, and each command.
+                self.assertEqual(synced.call_count, 3 * is_synced)
             with unittest.mock.patch("os.fsync", side_effect=OSError(28, "No space left on device")):
                 size = journal.stat().st_size
                 if is_synced:
@@ -202,6 +203,32 @@ class EdgebpfShell(unittest.TestCase):
         self.assertEqual(journal.read_text(), BEGUN)
         run = run_tool("edgebpf-shell", "--sync", text="")
         self.assertEqual((run.stderr, run.returncode), ("edgebpf-shell: --sync is of a journal, which --journal names\n", 1))
+
+    def test_a_synced_journal_in_place_of_another(self):
+        """A journal that was shortened is on the disk before it has its name, is synced as before, and then the disk has the name too."""
+        from edgebpf_tools.journal import Journal
+
+        told, sync, replace = [], os.fsync, os.replace
+
+        def synced(file):
+            told.append(os.readlink(f"/proc/self/fd/{file}"))
+            sync(file)
+
+        def replaced(old, new):
+            told.append("replace")
+            replace(old, new)
+
+        journal = os.path.realpath(self.folder / "journal")
+        first = Journal(journal, True)
+        with unittest.mock.patch("os.fsync", synced), unittest.mock.patch("os.replace", replaced):
+            first.add(["graph 4"])
+            other = first.replace(["graph 4"])
+            other.add(["pin a"])
+            other.add(["pin b"])
+        other.file.close()
+        folder = os.path.dirname(journal)
+        self.assertEqual(told, [journal, folder, f"{journal}.part{os.getpid()}", "replace", journal, folder, journal])
+        self.assertEqual(pathlib.Path(journal).read_text(), "graph 4\npin a\npin b\n")
 
     def test_compact_journals(self):
         """A journal that was shortened gives the same graph, pins, programs and edges, in fewer lines; `.script` shows these."""
@@ -596,6 +623,26 @@ with open("{self.folder}/asked", "a") as asked:
         self.assertEqual(self.status(), 0)
         runs = [int(count) for word, count in self.asked() if word == "run"]
         self.assertEqual((sum(runs), runs[-1]), (60_900, 900))
+
+    def test_lines_and_totals_of_parts(self):
+        """No line of a part is too long, also where later vertices have more digits, and sums wrap at 2^64 as those of one run do."""
+        import io
+        from edgebpf_tools.limits import MOST_LINE_BYTES
+        from edgebpf_tools.run_in_parts import RunInParts
+
+        class Stored:
+            lines = []
+
+            def ask(self, lines):
+                self.lines += lines
+                return [f"run t a edges 1 total {2**64 - 1}"]
+
+        frontier, stored = [0, *range(1_000_000, 1_040_000)], Stored()
+        answer = RunInParts(stored, "run t a sum -".split(), frontier, io.StringIO()).answer()
+        count = len(stored.lines)
+        self.assertEqual(answer, [f"run t a edges {count} total {2**64 - count}"])
+        self.assertLessEqual(max(map(len, stored.lines)), MOST_LINE_BYTES)
+        self.assertEqual([int(word) for line in stored.lines for word in line.split()[5:]], frontier)
 
     def test_interrupt_between_parts(self):
         """A Ctrl-C ends a run between two parts, edgebpf goes on, and what follows is asked of the same one; until then it says how far it is."""
