@@ -195,7 +195,8 @@ class Connections(unittest.TestCase):
 @unittest.skipIf(MISSING, f"not there: {MISSING}")
 class Ids(unittest.TestCase):
     def test_a_batch_that_comes_again_as_its_id_is_forgotten(self):
-        """In one group a new batch takes the place of the oldest id, and the batch with that id comes once more."""
+        """In one group a new batch takes the place of the oldest id, and the batch with that id comes once more. One that is twice in a group
+        is applied once."""
         sys.path[:0] = [str(TOP / "tools"), str(TOP / "bindings" / "python")]
         import numpy as np
         from edgebpf_serve.disk import Disk
@@ -205,12 +206,151 @@ class Ids(unittest.TestCase):
 
         with folder() as place:
             engine, told = Engine(Disk(place / "graph", 4, ids=1), Options(), Meter(), lambda *_, **__: None), []
-            for group in (("a",), ("b", "a"), ("b", "b")):
+            for group in (("a",), ("b", "a"), ("b", "b"), ("c", "c")):
                 for key in group:
                     engine.submit(key, np.array([(0, 1), (1, 2)] if key == "a" else [(2, 3)], "<u4"), told.append)
                 engine._write(engine.queue.take(0))
-            self.assertEqual(told, [(1, 2, 0, True), (2, 1, 0, True), (1, 2, 0, False), (2, 1, 0, False), (2, 1, 0, False)])
+            self.assertEqual(told, [(1, 2, 0, True), (2, 1, 0, True), (1, 2, 0, False), (2, 1, 0, False), (2, 1, 0, False),
+                                    (3, 0, 0, True), (3, 0, 0, False)])
             engine.disk.close()
+
+
+class WithEngine(unittest.TestCase):
+    """Tests over the writer of a new folder, without its thread."""
+
+    def setUp(self):
+        sys.path[:0] = [str(TOP / "tools"), str(TOP / "bindings" / "python")]
+        from edgebpf_serve import disk, engine, limits, metrics
+        self.modules, place = (disk, engine, limits, metrics), folder()
+        self.data = place.__enter__() / "graph"
+        self.addCleanup(place.__exit__, None, None, None)
+
+    def begun(self, vertices=4, **options):
+        disk, engine, limits, metrics = self.modules
+        return engine.Engine(disk.Disk(self.data, vertices), limits.Options(**options), metrics.Meter(), lambda *_, **__: None)
+
+    def write(self, engine, *edits):
+        """Writes a group of one batch."""
+        import numpy as np
+        engine.submit(f"key{engine.seq}", np.array(edits, "<u4"), lambda _: None)
+        engine._write(engine.queue.take(0))
+
+
+@unittest.skipIf(MISSING, f"not there: {MISSING}")
+class Losses(WithEngine):
+    """Rows that are gone, though what they say was acknowledged: the folder is refused."""
+
+    def refused(self, line, words):
+        engine = self.begun()
+        for target in range(4):
+            self.write(engine, (0, target))
+            if target == 2:
+                engine._take_snapshot(engine.latest, [])
+                engine._write(engine.queue.take(0))
+        engine.disk.db.execute(line)
+        engine.disk.close()
+        with self.assertRaisesRegex(self.modules[0].Wrong, words):
+            self.begun()
+
+    def test_the_last_batch_is_gone(self):
+        self.refused("delete from journal where seq = 4", "batches 4 to 4 were acknowledged, and are missing$")
+
+    def test_results_of_a_snapshot_are_gone(self):
+        self.refused("delete from results where seq > 1", "the results of batches 2 to 3 are missing$")
+
+
+@unittest.skipIf(MISSING, f"not there: {MISSING}")
+class Orders(WithEngine):
+    """What is synced before a name is taken for whole, and after it is given."""
+
+    def recorded(self, call):
+        """The names of what a call syncs and renames, in order."""
+        told, sync, rename = [], os.fsync, os.rename
+
+        def synced(file):
+            told.append(("sync", os.readlink(f"/proc/self/fd/{file}")))
+            sync(file)
+
+        def renamed(old, new):
+            told.append(("rename", os.path.realpath(new)))
+            rename(old, new)
+
+        with unittest.mock.patch("os.fsync", synced), unittest.mock.patch("os.rename", renamed):
+            call()
+        return [(what, pathlib.Path(name)) for what, name in told]
+
+    def test_a_new_folder(self):
+        """A new folder has its name on the disk before it takes a batch."""
+        made = self.recorded(lambda: self.begun().disk.close())
+        self.assertEqual([name for _, name in made], [self.data.resolve(), self.data.parent.resolve()])
+
+    def test_a_backup(self):
+        """All of a backup is on the disk before it has its name, and then so is the name."""
+        from edgebpf_serve import backup
+        engine, target = self.begun(), self.data.with_name("copy")
+        self.write(engine, (0, 1))
+        engine._take_snapshot(engine.latest, [])
+        engine._write(engine.queue.take(0))
+        made = self.recorded(lambda: backup.back_up(self.data, target))
+        place = made.index(("rename", target.resolve()))
+        names = {name.name for what, name in made[:place] if what == "sync" and name.parent.name.endswith(".draft")}
+        self.assertEqual(names, {"serve.db", *(path.name for path in self.data.glob("snapshot-*"))})
+        self.assertTrue(any(name.name.endswith(".draft") for _, name in made[:place]))
+        self.assertEqual(made[place + 1:], [("sync", target.parent.resolve())])
+        engine.disk.close()
+
+
+@unittest.skipIf(MISSING, f"not there: {MISSING}")
+class Waiting(WithEngine):
+    def test_a_reserve_of_another_size(self):
+        """One that a killed service left empty, or that an earlier start made smaller, is made again."""
+        disk = self.modules[0].Disk(self.data, 4, reserve=8_192)
+        for left in (None, b"", bytes(4_096), bytes(9_000)):
+            if left is not None:
+                (self.data / "reserve").write_bytes(left)
+            self.assertTrue(disk.make_reserve())
+            self.assertEqual((self.data / "reserve").stat().st_size, 8_192)
+        disk.close()
+
+    def test_bytes_that_may_wait(self):
+        """The bytes of all that waits have a limit, which a batch that waits alone may pass."""
+        engine = self.modules[1]
+        queue = engine.Queue(self.modules[2].Options(queue_bytes=10))
+        queue.put("a", 6)
+        with self.assertRaises(engine.Busy):
+            queue.put("b", 5)
+        queue.put("c", 4)
+        self.assertEqual(queue.take(0), ["a", "c"])
+        queue.put("d", 11)
+        self.assertEqual((queue.take(0), queue.bytes), (["d"], 0))
+
+
+@unittest.skipIf(MISSING, f"not there: {MISSING}")
+class Shown(WithEngine):
+    """What readers may look back on."""
+
+    def test_sources_that_changed(self):
+        """Of more groups than are kept the first are forgotten, and who asks for these is told to look at all."""
+        engine = self.begun()
+        with unittest.mock.patch.object(self.modules[1], "MOST_GROUPS", 2):
+            for target in range(4):
+                self.write(engine, (target, 0))
+        told = [engine.shown.since(seq)[1] for seq in range(5)]
+        self.assertEqual([sources if sources is None else sources.tolist() for sources in told], [None, None, [2, 3], [3], []])
+        engine.disk.close()
+
+    def test_bytes_of_versions(self):
+        """The memory of the older versions is what those after them had to copy, also after versions were dropped."""
+        engine = self.begun(vertices=2_000, kept_bytes=20_000)
+        for number in range(40):
+            self.write(engine, *((source, number) for source in range(0, 50 * (number % 7) + 1, 50)))
+            shown = engine.shown
+            self.assertEqual(shown.kept_bytes, sum(cost for _, cost in list(shown.kept)[1:]))
+            if number == 20:
+                shown.free()
+                self.assertEqual((len(shown.kept), shown.kept_bytes), (1, 0))
+        self.assertIn(len(shown.kept), range(3, 19))
+        engine.disk.close()
 
 
 @unittest.skipIf(MISSING, f"not there: {MISSING}")

@@ -14,11 +14,12 @@ import sys
 import threading
 import time
 import unittest
+import unittest.mock
 
 HERE = pathlib.Path(__file__).resolve().parent
 sys.path.insert(0, str(HERE))
 
-from harness import TOOLS, Client, Error, Forks, folder, missing, served  # noqa: E402
+from harness import TOOLS, Client, Error, Forks, NoAnswer, folder, missing, served  # noqa: E402
 from model import KINDS, Graph, random_edits, seeded, table_of  # noqa: E402
 from wrong_forms import PAST_LIMITS, VERTICES, WRONG_FORMS, write_limits  # noqa: E402
 
@@ -436,6 +437,48 @@ class Limits(WithService):
             self.assertEqual(client.status()["version"], len(taken))
             # A client that comes again has each taken once.
             self.assertEqual(Client(client.url).batch([(1, 1)])[0].version, len(taken) + 1)
+
+
+class Clients(unittest.TestCase):
+    """What a client does with answers that no service gives at a test's wish."""
+
+    def setUp(self):
+        self.client = Client("http://127.0.0.1:1", tries=1)
+
+    def patched(self, name, **more):
+        return unittest.mock.patch.object(self.client, name, **more)
+
+    def test_pages_are_of_one_version(self):
+        pages = [{"neighbours": [1, 5], "version": 7, "next": 5}, {"neighbours": [8], "version": 7}]
+        with self.patched("json", side_effect=pages) as asked:
+            self.assertEqual(self.client.neighbours(3), [1, 5, 8])
+        self.assertEqual(asked.call_args.args[1], "/neighbours/3?direction=out&after=5&version=7")
+
+    def test_changes_that_are_cut_off(self):
+        whole = b'{"version":1,"edits":[[0,1]]}\n{"version":2,"edits":[]}\n'
+        for data in (b"", whole):
+            with self.patched("ask", return_value=({}, data)), self.assertRaises(NoAnswer):
+                self.client.changes(0)
+        with self.patched("ask", return_value=({}, whole + b'{"version":2}\n')):
+            self.assertEqual(self.client.changes(0), [(1, [[0, 1]]), (2, [])])
+
+    def test_a_watch_goes_on_where_it_was(self):
+        """After a lost connection it asks for what came after the last event, by a new connection, and the old one is closed."""
+        events = [b'id: 1-00000000\nevent: rows\ndata: {"version":1,"rows":[[0,1]]}\n\n', b'id: 4-00000000\nevent: changes\ndata: {"from":1,"version":4,"rows":[]}\n\n']
+        connections = []
+        for data in events:
+            connection = unittest.mock.Mock()
+            connection.getresponse.return_value = answer = unittest.mock.MagicMock(status=200)
+            answer.__iter__.side_effect = lambda data=data: iter(data.splitlines(keepends=True))
+            connections.append(connection)
+        with self.patched("_connection", side_effect=connections), unittest.mock.patch("time.sleep"):
+            stream = self.client.watch("target")
+            self.assertEqual([next(stream).version for _ in events], [1, 4])
+            connections[0].close.assert_called_once()
+            stream.close()
+            connections[1].close.assert_called_once()
+        asked = [connection.request.call_args.kwargs["headers"].get("Last-Event-ID") for connection in connections]
+        self.assertEqual(asked, [None, "1-00000000"])
 
 
 class Tokens(WithService):

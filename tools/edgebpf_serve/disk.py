@@ -259,12 +259,11 @@ class Disk:
         return True
 
     def make_reserve(self):
-        """Makes the reserve if there is none and there is room for it; returns whether there is one."""
+        """Makes the reserve if there is none of its size and there is room for it; returns whether there is one. A start with another size,
+        or one that was killed here, has left another file."""
         path = self.folder / "reserve"
-        if not self.reserve:
+        if not self.reserve or path.exists() and path.stat().st_size == self.reserve:
             return True
-        if path.exists():
-            return path.stat().st_size == self.reserve
         try:
             with open(path, "wb") as file:
                 os.posix_fallocate(file.fileno(), 0, self.reserve)
