@@ -326,6 +326,23 @@ class Waiting(WithEngine):
 
 
 @unittest.skipIf(MISSING, f"not there: {MISSING}")
+class Batches(WithEngine):
+    def test_as_many_as_a_token_may(self):
+        """In each second a token has as many batches as it may, and not one more."""
+        from edgebpf_serve import tokens
+        disk = self.modules[0].Disk(self.data, 4)
+        known, token = tokens.Tokens(disk, True), tokens.ANYBODY._replace(limits={"batches": 3})
+        for second in (7.1, 7.9), (8.0, 8.5):
+            with unittest.mock.patch("time.monotonic", side_effect=[second[0], *[second[1]] * 3]):
+                for _ in range(3):
+                    known.count_batch(token)
+                with self.assertRaises(tokens.TooFast):
+                    known.count_batch(token)
+        known.close()
+        disk.close()
+
+
+@unittest.skipIf(MISSING, f"not there: {MISSING}")
 class Shown(WithEngine):
     """What readers may look back on."""
 
@@ -413,6 +430,25 @@ class Names(unittest.TestCase):
             self.engine._write(self.engine.queue.take(0) or [])
             self.engine.queue.close()
         self.assertEqual(([column.name for column in told], len(list(self.data.glob("column-*")))), (["a", "b"], 2))
+
+    def test_a_column_that_comes_late(self):
+        """One that was begun before another of its name, and is handed in after it, does not take its place, and its file is gone."""
+        from edgebpf_serve.engine import Busy
+        old, new = self.column("a", 1), self.column("a", 2)
+        self.written([new])
+        self.assertIsInstance(self.written([old])[0], Busy)
+        self.assertEqual((self.columns.get("a").numbers.tolist(), len(list(self.data.glob("column-*")))), ([2] * 4, 1))
+
+    def test_a_copy_whose_column_is_damaged(self):
+        from edgebpf_serve import backup, disk
+        self.written([self.column("a", 1)])
+        copy = self.data.with_name("copy")
+        backup.back_up(self.data, copy)
+        self.assertEqual(backup.check(copy, lambda *_, **__: None)["columns"], 1)
+        file, = copy.glob("column-*")
+        file.write_bytes(bytes(32))
+        with self.assertRaisesRegex(disk.Wrong, "of the column a is damaged$"):
+            backup.check(copy, lambda *_, **__: None)
 
     def test_a_snapshot_that_is_not_entered(self):
         """Its file is gone, but for one of a version that was entered before."""

@@ -131,6 +131,8 @@ class Answers(WithService):
             cut = client.expand([3, 4], 3, limit=5)
             self.assertEqual((cut["count"], cut["complete"]), (5, False))
             self.assertLessEqual(set(cut["vertices"]), set(graph.reached([3, 4], 3)))
+            exact = client.expand([3, 4], 3, limit=len(graph.reached([3, 4], 3)))
+            self.assertEqual((exact["vertices"], exact["complete"]), (graph.reached([3, 4], 3), True))
 
     def test_changes(self):
         with self.served() as client:

@@ -291,6 +291,7 @@ class WordsAtTheLine(unittest.TestCase):
             (array_file([5], "<u8").replace(b"(1,), }" + 18 * b" ", b"(%d,), }" % 10**18), [], "no file that numpy reads"),
             (right, ["--column", "second"], "--column is NAME=FILE"), (right, ["--column", f"second={self.folder}"], "Is a directory"),
             (right, other, "records of 32 bytes have no room for 2 columns of 16 bytes"),
+            (right, [word for name in "abcdefgh" for word in self.column(right, name)], "a run is lent at most 8 columns, not 9"),
             (right, ["--argument", "00"], "--argument has 1 bytes; records of 32 bytes and 1 columns have an argument of 0"),
         ):
             run = self.of_columns(*self.column(text), *words)

@@ -115,6 +115,17 @@ class Built(unittest.TestCase):
                 self.assertEqual((run.stdout, run.stderr, run.returncode), ("", told, 1))
                 self.assertFalse((self.room / "made.so").exists())
 
+    def test_a_compiler_that_fails(self):
+        """What it wrote until then is gone, and a file that was there before is as it was."""
+        compiler, made = self.room / "compiler", self.room / "made.so"
+        compiler.write_text('#!/bin/sh\nwhile [ "$1" != -o ]; do shift; done\necho half >"$2"\necho no room >&2\nexit 1\n')
+        compiler.chmod(0o755)
+        made.write_text("before")
+        run = subprocess.run([TOP / "dist/link", "libedgebpf_algorithms", made], env={**os.environ, "CC": str(compiler)}, capture_output=True, text=True)
+        self.assertEqual((run.returncode, run.stdout, run.stderr.splitlines()[0]), (1, "", "no room"))
+        self.assertIn(f"libedgebpf_algorithms: {compiler} could not build it from dist/", run.stderr)
+        self.assertEqual(({path.name for path in self.room.iterdir()}, made.read_text()), ({"compiler", "made.so"}, "before"))
+
     @unittest.skipUnless(shutil.which("cc"), "there is no cc")
     def test_a_compiler_with_more_words(self):
         for compiler in ("env cc", " cc -g0"):

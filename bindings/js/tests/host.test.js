@@ -213,6 +213,24 @@ test("what is closed leaves no memory in use", () => {
   again.close();
 });
 
+test("calls and handles that are refused leave no memory in use", () => {
+  const store = library.newStore(100), version = versionOf(100, THREE), program = programOf(TARGET), held = library.memory.held;
+  for (let round = 0; round < 3; round++) {
+    version.run(program);
+    failsBy(13, () => version.run(program, { argument: [1] }));
+    assert.throws(() => programOf("mov r0, r1\nexit"), Refused);
+    failsBy(4, () => library.newStore(0));
+  }
+  assert.equal(library.memory.held, held);
+  store.close();
+});
+
+test("edges of which some have no target are refused before the first batch", () => {
+  const store = library.newStore(4), sources = new Uint32Array(65537), targets = new Uint32Array(65536);
+  failsBy(9, () => store.insert(sources, targets));
+  assert.deepEqual([store.pin().info().number, store.pin().info().edges], [0n, 0n]);
+});
+
 test("a module that trapped answers no more", () => {
   const version = versionOf(4, THREE);
   assert.throws(() => library.call("edgebpf_version_info", version, 2n ** 32n - 8n), (error) => error instanceof Stopped && error.cause instanceof WebAssembly.RuntimeError);

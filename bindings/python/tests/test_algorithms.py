@@ -112,6 +112,14 @@ class ByHand(WithStores):
             found, scores = algorithms.Candidates(version, "common").of(vertex)
             self.assertEqual((found.tolist(), scores.tolist()), wanted)
 
+    def test_candidates_of_one_vertex_after_another(self):
+        """What is kept from question to question is not seen in a later answer."""
+        for kind in ("common", "adamic_adar", "allocation"):
+            kept = algorithms.Candidates(self.eight(), kind)
+            for vertex in (0, 3, 1, 0, 2):
+                fresh = algorithms.Candidates(self.eight(), kind)
+                self.assertEqual([part.tolist() for part in kept.of(vertex)], [part.tolist() for part in fresh.of(vertex)])
+
     def test_a_directed_graph(self):
         version = self.version(([0, 0, 1, 3], [1, 2, 2, 2]), 4)[1]
         found = algorithms.bfs(version, 0)

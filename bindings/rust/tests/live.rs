@@ -83,6 +83,15 @@ fn there_is_no_end_to_rebases() {
 }
 
 #[test]
+fn batches_between_rebases_are_at_most_4096() {
+    let live = Live::with_rebases(2, u64::MAX, u64::MAX).unwrap();
+    for number in 1..=4_097 {
+        assert_eq!(live.apply(Feed::A, &Batch::new()).unwrap().number, number);
+    }
+    assert_eq!((live.latest().unwrap().epoch(), live.latest().unwrap().number()), (1, 1));
+}
+
+#[test]
 fn what_is_wrong_changes_nothing() {
     assert!(matches!(Live::new(0), Err(Error::VertexCount)));
     let live = Live::with_rebases(4, 0, 0).unwrap();
