@@ -255,6 +255,18 @@ class Losses(WithEngine):
     def test_the_last_batch_is_gone(self):
         self.refused("delete from journal where seq = 4", "batches 4 to 4 were acknowledged, and are missing$")
 
+    def test_the_sum_of_a_table_is_gone(self):
+        """A table that has rows, and no sum of them, is damaged."""
+        from edgebpf_serve import rows
+        disk = self.modules[0].Disk(self.data, 4)
+        self.assertEqual(rows.read(disk.db, "programs"), [])
+        rows.put(disk.db, "programs", ("a", 16, "text", b"exit", b"", "me"))
+        self.assertEqual(len(rows.read(disk.db, "programs")), 1)
+        disk.db.execute("delete from meta where name = 'programs'")
+        with self.assertRaisesRegex(rows.Damaged, "^a row of the table programs is missing, or is one too many$"):
+            rows.read(disk.db, "programs")
+        disk.close()
+
     def test_results_of_a_snapshot_are_gone(self):
         self.refused("delete from results where seq > 1", "the results of batches 2 to 3 are missing$")
 
@@ -298,6 +310,26 @@ class Orders(WithEngine):
         self.assertTrue(any(name.name.endswith(".draft") for _, name in made[:place]))
         self.assertEqual(made[place + 1:], [("sync", target.parent.resolve())])
         engine.disk.close()
+
+
+@unittest.skipIf(MISSING, f"not there: {MISSING}")
+class Graphs(WithEngine):
+    def test_as_many_batches_as_a_log_has(self):
+        """With the most batches between two rebases the log is never too full."""
+        import numpy as np
+        from edgebpf_serve.graph import Graph
+        graph = Graph(2, self.modules[2].Options(rebase_batches=4_096))
+        for number in range(4_098):
+            graph.apply(np.array([(0, number % 2)], "<u4"))
+        self.assertEqual((graph.rebases, graph.batches), (1, 2))
+
+    def test_memory_that_is_refused(self):
+        """Older versions are dropped first, then comes a rebase, and then the batch once more."""
+        from edgebpf_serve import graph
+        calls = unittest.mock.Mock()
+        calls.apply.side_effect = [graph.edgebpf.NoMemory("none"), "counts"]
+        self.assertEqual(graph.applied(calls, ("sources", "targets"), "marks", calls.free), "counts")
+        self.assertEqual([call[0] for call in calls.mock_calls], ["apply", "free", "rebase", "apply"])
 
 
 @unittest.skipIf(MISSING, f"not there: {MISSING}")

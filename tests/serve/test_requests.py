@@ -450,6 +450,23 @@ class Clients(unittest.TestCase):
     def patched(self, name, **more):
         return unittest.mock.patch.object(self.client, name, **more)
 
+    def test_ids_of_a_long_list(self):
+        """Each batch of a list has an id of its own, which is the same if the list is sent again."""
+        edits = [(number, 1) for number in range(2 * 65_536 + 1)]
+        with self.patched("json", return_value={"version": 1, "added": 0, "removed": 0, "new": True}) as asked:
+            self.assertEqual(len(self.client.batch(edits, key="a")), 3)
+        sent = [(len(call.args[2]), call.args[3]["Idempotency-Key"]) for call in asked.call_args_list]
+        self.assertEqual(sent, [(8 * 65_536, "a"), (8 * 65_536, "a-1"), (8, "a-2")])
+
+    def test_the_greatest_source(self):
+        """The bit above it would take an edge out."""
+        with self.patched("_batch") as sent:
+            self.client.batch([(2**31 - 1, 2**32 - 1)], key="a")
+            self.assertEqual(sent.call_args.args, (struct.pack("<II", 2**31 - 1, 2**32 - 1), "a"))
+            for edit in ((2**31, 0), (2**31, 0, 1), (0, 2**32), (-1, 0)):
+                with self.assertRaises(ValueError):
+                    self.client.batch([edit])
+
     def test_pages_are_of_one_version(self):
         pages = [{"neighbours": [1, 5], "version": 7, "next": 5}, {"neighbours": [8], "version": 7}]
         with self.patched("json", side_effect=pages) as asked:

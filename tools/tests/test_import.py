@@ -234,6 +234,8 @@ class EdgebpfImport(unittest.TestCase):
                         text = "".join(f"{source} {target}\n" for source, target in edges.tolist()).encode()
                         made = import_edges.SortedEdges(edge_files.Text("text", io.BytesIO(text)), options, 1 << 20, self.fail, runs)
                         self.assertEqual(runs.file is None, memory == 1 << 30)
+                        # Runs that were replaced take no room of the memory any more.
+                        self.assertEqual(runs.kept, sum(run.nbytes for run in runs.runs if not isinstance(run, numpy.memmap)))
                         batches = [edge_runs.columns_of(batch) for batch in made.batches(64)]
                         self.assertEqual(os.listdir(folder), [])
                 self.assertEqual([len(sources) for sources, _ in batches], [min(64, len(wanted) - place) for place in range(0, len(wanted), 64)])

@@ -127,6 +127,19 @@ class Built(unittest.TestCase):
         self.assertEqual(({path.name for path in self.room.iterdir()}, made.read_text()), ({"compiler", "made.so"}, "before"))
 
     @unittest.skipUnless(shutil.which("cc"), "there is no cc")
+    def test_words_that_do_not_fit(self):
+        """Of a word that is longer than its buffer nothing is written past the end."""
+        source, made = self.room / "words.c", self.room / "words"
+        source.write_text(
+            "#include <stdio.h>\n#include <stddef.h>\nptrdiff_t rattle_arg(size_t, char *, size_t);\nsize_t rattle_arg_count(void);\n"
+            "int main(void) {\n    for (size_t index = 1; index <= 5; index++) {\n        char room[] = \"......\";\n"
+            "        ptrdiff_t length = rattle_arg(index, room, 3);\n        printf(\"%td %s\\n\", length, room);\n    }\n"
+            "    printf(\"%zu\\n\", rattle_arg_count());\n}\n")
+        subprocess.run(["cc", "-Wall", "-Wextra", "-Werror", "-o", made, source, TOP / "dist/platform.c"], check=True)
+        run = subprocess.run([made, "", "ab", "abc", "abcd"], capture_output=True, text=True)
+        self.assertEqual((run.stdout, run.returncode), ("0 ......\n2 ab....\n3 abc...\n-2 abc...\n-1 ......\n5\n", 0))
+
+    @unittest.skipUnless(shutil.which("cc"), "there is no cc")
     def test_a_compiler_with_more_words(self):
         for compiler in ("env cc", " cc -g0"):
             made = self.room / f"{len(compiler)}.so"

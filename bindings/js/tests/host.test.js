@@ -225,6 +225,21 @@ test("calls and handles that are refused leave no memory in use", () => {
   store.close();
 });
 
+test("products of 128 bits, which the compiler asks for", async () => {
+  // A module with a memory, whose only function is the one that it imports: the types, the import, the memory, the heap's base and the exports.
+  const named = (name) => [name.length, ...new TextEncoder().encode(name)];
+  const sections = [
+    [1, 1, 0x60, 5, 0x7e, 0x7e, 0x7e, 0x7e, 0x7e, 0], [2, 1, ...named("env"), ...named("__multi3"), 0, 0], [5, 1, 0, 1], [6, 1, 0x7f, 0, 0x41, 0x80, 8, 0x0b],
+    [7, 3, ...named("memory"), 2, 0, ...named("__heap_base"), 3, 0, ...named("__multi3"), 0, 0],
+  ].flatMap(([kind, ...content]) => [kind, content.length, ...content]);
+  const small = await Library.load(Uint8Array.from([0, 0x61, 0x73, 0x6d, 1, 0, 0, 0, ...sections]));
+  for (const [one, other] of [[3n, 5n], [NONE, NONE], [2n ** 100n + 7n, 2n ** 20n + 1n], [2n ** 128n - 1n, 9n]]) {
+    small.call("__multi3", 16n, ...[one, one >> 64n, other, other >> 64n].map((half) => BigInt.asIntN(64, half)));
+    const [low, high] = new BigUint64Array(small.copy(16, 16).buffer);
+    assert.equal(low | (high << 64n), BigInt.asUintN(128, one * other));
+  }
+});
+
 test("edges of which some have no target are refused before the first batch", () => {
   const store = library.newStore(4), sources = new Uint32Array(65537), targets = new Uint32Array(65536);
   failsBy(9, () => store.insert(sources, targets));
