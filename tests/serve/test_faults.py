@@ -1,4 +1,5 @@
 """What a service does when its disk fails a sync, and when its client breaks off in the midst of all kinds of requests."""
+import asyncio
 import functools
 import os
 import pathlib
@@ -334,6 +335,36 @@ class Graphs(WithEngine):
 
 @unittest.skipIf(MISSING, f"not there: {MISSING}")
 class Waiting(WithEngine):
+    def test_bodies_in_parts(self):
+        """What a body took of the memory for all bodies is given back whole as its request ends, also if a part was refused."""
+        from aiohttp import web
+        from edgebpf_serve import app, service
+
+        class Request(dict):
+            def __init__(self, *parts):
+                self.content, self.protocol, self.parts = self, object(), list(parts)
+
+            def at_eof(self):
+                return not self.parts
+
+            async def readany(self):
+                return self.parts.pop(0)
+
+        made = service.Service.__new__(service.Service)
+        made.body_bytes, made.meter, made.under_way, made.paused = 0, unittest.mock.Mock(), {}, set()
+        for most, most_of_all, error in ((6, 6, None), (5, 6, web.HTTPRequestEntityTooLarge), (6, 5, self.modules[1].Busy)):
+            request = Request(b"abc", b"de", b"f")
+            made.under_way[request.protocol] = request, 0.0
+            with unittest.mock.patch.object(service, "MOST_BODY_BYTES", most_of_all):
+                if error is None:
+                    self.assertEqual(asyncio.run(made._collected(request, most)), b"abcdef")
+                else:
+                    with self.assertRaises(error):
+                        asyncio.run(made._collected(request, most))
+            self.assertEqual(made.body_bytes, 6 if error is None else 5)
+            app.forget(made, request)
+            self.assertEqual(made.body_bytes, 0)
+
     def test_a_reserve_of_another_size(self):
         """One that a killed service left empty, or that an earlier start made smaller, is made again."""
         disk = self.modules[0].Disk(self.data, 4, reserve=8_192)
@@ -371,6 +402,22 @@ class Batches(WithEngine):
                 with self.assertRaises(tokens.TooFast):
                     known.count_batch(token)
         known.close()
+        disk.close()
+
+
+    def test_watches_that_ended(self):
+        """A token has so many watches at once, and as many again once these have ended."""
+        from edgebpf_serve import standing, tokens
+        disk = self.modules[0].Disk(self.data, 4)
+        service, token = unittest.mock.Mock(standing={}, tokens=tokens.Tokens(disk, True)), tokens.ANYBODY._replace(limits={"watches": 1})
+        query = unittest.mock.Mock(query="query", subscribers=0)
+        for _ in range(3):
+            with standing.subscribed(service, token, query):
+                self.assertEqual((query.subscribers, service.standing), (1, {"query": query}))
+                with self.assertRaises(tokens.TooFast), standing.subscribed(service, token, query):
+                    pass
+            self.assertEqual((query.subscribers, service.standing), (0, {}))
+        service.tokens.close()
         disk.close()
 
 

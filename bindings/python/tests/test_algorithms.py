@@ -158,6 +158,18 @@ class ByHand(WithStores):
             self.assertLessEqual(rank.apart, 1e-6)
         self.assertEqual(live.are_joined([0, 0, 1], [5, 2, 1]).tolist(), [True, False, True])
 
+    def test_pushes_after_whole_rounds(self):
+        """Vertices that waited for a push as whole rounds took over are pushed by the next update."""
+        chance = np.random.default_rng(0)
+        store, version = self.version(chance.integers(0, 3_000, (2, 12_000)), 3_000)
+        rank = algorithms.LiveRank(version, within=1e-9)
+        for count in (3_000, 2):
+            inserts = tuple(chance.integers(0, 3_000, (2, count)))
+            store.batch("A", inserts)
+            rank.update(store.pin(), inserts)
+            self.assertGreater(rank.rounds, 0)
+            self.assertGreater(rank.pushed, 1_000)
+
     def test_parts_that_fall_apart_again_and_again(self):
         """Parts have new numbers each time, and at last more than there is room for."""
         edges = both([(0, vertex) for vertex in range(1, 6)])
