@@ -120,6 +120,15 @@ class ByHand(WithStores):
                 fresh = algorithms.Candidates(self.eight(), kind)
                 self.assertEqual([part.tolist() for part in kept.of(vertex)], [part.tolist() for part in fresh.of(vertex)])
 
+    def test_candidates_with_equal_scores(self):
+        """The least vertex comes first, whichever was met first."""
+        _, version = self.version(([0, 0, 1, 2, 2], [1, 2, 9, 5, 9]), 10)
+        kept = algorithms.Candidates(version, "common")
+        self.assertEqual([part.tolist() for part in kept.of(0)], [[9, 5], [2.0, 1.0]])
+        _, version = self.version(([0, 0, 0, 1, 2, 3], [1, 2, 3, 9, 5, 7]), 10)
+        kept = algorithms.Candidates(version, "common")
+        self.assertEqual([kept.of(0, count)[0].tolist() for count in (1, 2, 3)], [[5], [5, 7], [5, 7, 9]])
+
     def test_a_directed_graph(self):
         version = self.version(([0, 0, 1, 3], [1, 2, 2, 2]), 4)[1]
         found = algorithms.bfs(version, 0)
