@@ -1,4 +1,5 @@
 """The lines that a session sent, kept in a file."""
+import errno
 import fcntl
 import os
 
@@ -7,6 +8,19 @@ from edgebpf_tools.refusal import Refusal
 
 # So many bytes of what is left out are shown.
 MOST_SHOWN = 200
+
+
+def sync_name(path):
+    """Waits until the disk has the name of a file. A folder that may not be read, or whose file system syncs none, is left as it is."""
+    try:
+        folder = os.open(os.path.dirname(os.path.realpath(path)), os.O_RDONLY | os.O_DIRECTORY)
+        try:
+            os.fsync(folder)
+        finally:
+            os.close(folder)
+    except OSError as error:
+        if error.errno not in (errno.EACCES, errno.EINVAL):
+            raise
 
 
 class Journal:
@@ -35,11 +49,7 @@ class Journal:
         """Waits until the disk has the lines, and the name of a file that is new or took another's place."""
         os.fsync(self.file.fileno())
         if not self.is_named:
-            folder = os.open(os.path.dirname(os.path.realpath(self.path)), os.O_RDONLY | os.O_DIRECTORY)
-            try:
-                os.fsync(folder)
-            finally:
-                os.close(folder)
+            sync_name(self.path)
             self.is_named = True
 
     def cut(self, size):

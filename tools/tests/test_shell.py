@@ -230,6 +230,21 @@ class EdgebpfShell(unittest.TestCase):
         self.assertEqual(told, [journal, folder, f"{journal}.part{os.getpid()}", "replace", journal, folder, journal])
         self.assertEqual(pathlib.Path(journal).read_text(), "graph 4\npin a\npin b\n")
 
+    def test_a_folder_that_is_not_synced(self):
+        """A file system that syncs no folders leaves the journal of use; any other error is one of the journal."""
+        from edgebpf_tools import journal
+
+        for error, is_kept in ((OSError(22, "Invalid argument"), True), (PermissionError(13, "Permission denied"), True), (OSError(5, "Input/output error"), False)):
+            kept = journal.Journal(str(self.folder / "journal"), True)
+            with unittest.mock.patch("os.fsync", side_effect=[None, error]):
+                if is_kept:
+                    kept.add(["graph 4"])
+                else:
+                    with self.assertRaises(OSError):
+                        kept.add(["graph 4"])
+            kept.file.close()
+        self.assertEqual((self.folder / "journal").read_text(), "graph 4\n" * 2)
+
     def test_compact_journals(self):
         """A journal that was shortened gives the same graph, pins, programs and edges, in fewer lines; `.script` shows these."""
         journal = self.folder / "journal"
