@@ -10,10 +10,10 @@
 extern "C" {
 #endif
 
-/* What a call returns: 0 if it is done, else why it is not. Then each handle holds what it held before, and each output is as it was, but for
-   three: `verdict` has the cause after REFUSED, `assembled` the line and the fault after WRONG_TEXT, and `assembled` and `count` what is needed
-   after LENGTHS. After any other error nothing is said of these three. NO_MEMORY may come in place of some: of
-   TOO_MANY_EDITS, VERTEX_RANGE, LOG_FULL and FEED of a batch, of REFUSED and WRONG_TEXT, and of LENGTHS if code or an explanation is written. */
+/* What a call returns: 0 if it is done, else why it is not. After an error each handle holds what it held before, and each output is as it was,
+   but for three: `verdict` has the cause after REFUSED, `assembled` the line and the fault after WRONG_TEXT, and `assembled` and `count` what is
+   needed after LENGTHS. After any other error nothing is said of these three. NO_MEMORY may come in place of some: of TOO_MANY_EDITS,
+   VERTEX_RANGE, LOG_FULL and FEED of a batch, of REFUSED and WRONG_TEXT, and of LENGTHS if code or an explanation is written. */
 enum {
     EDGEBPF_DONE = 0,
     EDGEBPF_NO_MEMORY = 1,
@@ -118,10 +118,9 @@ typedef struct edgebpf_totals { uint64_t edges, total; } edgebpf_totals;
 /* A column: a number for each vertex. */
 typedef struct edgebpf_column { const uint64_t *at; size_t count; } edgebpf_column;
 
-/* Work under way, which goes on from call to call: {0} is its beginning. `budget` is how much the next call may do, and falls by what
-   is done. Of a frontier `vertex` vertices are done, and `place` edges of the next one; of pairs `vertex` are done, and `place` is
-   0. `edges` edges in all have a number, and those of a run reduce to `total`. There is no pointer in it, so it may be kept, sent, or
-   written to a file. */
+/* Work under way, which goes on from call to call: {0} is its beginning. `budget` is how much the next call may do, and falls by what is done. Of
+   a frontier `vertex` vertices are done, and `place` edges of the next one; of pairs `vertex` are done, and `place` is 0. `edges` edges, or
+   pairs, in all have a number, and those of a run reduce to `total`. There is no pointer in it, so it may be kept, sent, or written to a file. */
 typedef struct edgebpf_progress { uint64_t budget, edges, total; uint32_t vertex, place; } edgebpf_progress;
 
 enum { EDGEBPF_SUM = 0, EDGEBPF_MIN = 1, EDGEBPF_MAX = 2 };
@@ -137,8 +136,8 @@ uint32_t edgebpf_store_new(uint32_t vertices, edgebpf_store *out);
 uint32_t edgebpf_store_from(uint32_t vertices, const uint64_t *starts, size_t start_count, const uint32_t *targets, size_t target_count,
                             edgebpf_store *out);
 
-/* A branch: a store of its own whose graph is that of a version. No list is copied: it takes some microseconds, and tens of them
-   with the most vertices. It begins anew, with version 0 of epoch 0 and room for 4,096 batches, and nothing that is done to it changes the version, or the
+/* A branch: a store of its own whose graph is that of a version. No list is copied: it takes some microseconds, and tens of them with the most
+   vertices. It begins anew, with version 0 of epoch 0 and room for 4,096 batches, and nothing that is done to it changes the version, or the
    store that the version is of; either may be closed. */
 uint32_t edgebpf_store_of(edgebpf_version *version, edgebpf_store *out);
 
@@ -188,7 +187,7 @@ uint32_t edgebpf_version_copy(edgebpf_version *version, uint64_t *starts, size_t
 uint32_t edgebpf_version_degrees(edgebpf_version *version, const uint32_t *frontier, size_t frontier_count, uint32_t *counts,
                                  size_t count_count);
 
-/* The neighbours of the vertices of such a frontier, at most 268,435,456 of them, one vertex after another: those of the vertex at
+/* The neighbours of the vertices of such a frontier, which has at most 268,435,456, one vertex after another: those of the vertex at
    place i are targets[starts[i]] to targets[starts[i + 1] - 1]. `starts` has one place for each vertex and one more, and `targets`
    has room for `count`; its places after these stay as they are. LENGTHS, and then no list is written. `count` is written also then,
    but not for a frontier that is too long: ask with a room of 0, and then with one of `count`. */
@@ -219,13 +218,12 @@ uint32_t edgebpf_run(edgebpf_version *version, edgebpf_program *program, const u
                      const uint32_t *frontier, size_t frontier_count, uint32_t reduction, uint64_t *values,
                      size_t value_count, edgebpf_totals *totals);
 
-/* Goes on with a run over a frontier, as far as `at->budget` goes; it is done where `at->vertex` is `frontier_count`, and has then
-   written what edgebpf_run writes. Each call does one edge or one vertex at least, also with a budget of 0. An edge takes at most
-   the verdict's bound and 4 from the budget, a vertex 16. A call finishes the edge, or the block of up to 64 edges, that it began, also
-   past its budget: no contract says by how much. `values` has one place for each vertex, and keeps its content from call to call: those of vertices that are done are
-   final. Hand in the same version (or another handle of it), program, argument, frontier and reduction each time. REDUCTION,
-   LENGTHS, ARGUMENT_LENGTH, PROGRESS, tested in this order; it takes no memory. For a status other than 0 nothing is written, also
-   not `at`. */
+/* Goes on with a run over a frontier, as far as `at->budget` goes; it is done where `at->vertex` is `frontier_count`, and has then written what
+   edgebpf_run writes. Each call does one edge or one vertex at least, also with a budget of 0. An edge takes at most the verdict's bound and 4
+   from the budget, a vertex 16. A call finishes the edge, or the block of up to 64 edges, that it began, also past its budget: no contract says
+   by how much. `values` has one place for each vertex, and keeps its content from call to call: those of vertices that are done are final. Hand
+   in the same version (or another handle of it), program, argument, frontier and reduction each time. REDUCTION, LENGTHS, ARGUMENT_LENGTH,
+   PROGRESS, tested in this order; it takes no memory. For a status other than 0 nothing is written, also not `at`. */
 uint32_t edgebpf_run_some(edgebpf_version *version, edgebpf_program *program, const uint8_t *argument, size_t argument_length,
                           const uint32_t *frontier, size_t frontier_count, uint32_t reduction, edgebpf_progress *at,
                           uint64_t *values, size_t value_count);
@@ -267,11 +265,11 @@ uint32_t edgebpf_pairs_of(edgebpf_version *version, edgebpf_program *program, co
                           const edgebpf_column *columns, size_t column_count, const uint32_t *sources, size_t source_count,
                           const uint32_t *targets, size_t target_count, edgebpf_progress *at, uint64_t *numbers, size_t number_count);
 
-/* A push: a run whose numbers go to the values of the edges' targets. `values` has one for each vertex of the graph. The number of each
-   edge of the frontier's vertices is reduced into the value of its target; a vertex that no such edge leads to keeps its value. A vertex
-   that stands twice in the frontier counts twice. REDUCTION, LENGTHS, COLUMNS, ARGUMENT_LENGTH, tested in this order, and then PROGRESS;
-   else nothing is written. `edgebpf_push_some` goes on as `edgebpf_run_some` does: it is done where `at->vertex` is
-   `frontier_count`, and `values` keeps its content from call to call. */
+/* A push: a run whose numbers go to the values of the edges' targets. `values` has one for each vertex of the graph. The number of each edge of
+   the frontier's vertices is reduced into the value of its target; a vertex that no such edge leads to keeps its value. A vertex that stands
+   twice in the frontier counts twice. REDUCTION, LENGTHS (also of a frontier of more than 268,435,456 vertices), COLUMNS, ARGUMENT_LENGTH, and of
+   `edgebpf_push_some` PROGRESS, tested in this order; for a status other than 0 nothing is written. `edgebpf_push_some` goes on as
+   `edgebpf_run_some` does: it is done where `at->vertex` is `frontier_count`, and `values` keeps its content from call to call. */
 uint32_t edgebpf_push(edgebpf_version *version, edgebpf_program *program, const uint8_t *argument, size_t argument_length,
                       const edgebpf_column *columns, size_t column_count, const uint32_t *frontier, size_t frontier_count,
                       uint32_t reduction, uint64_t *values, size_t value_count, edgebpf_totals *totals);
@@ -288,10 +286,10 @@ static inline uint64_t edgebpf_join(uint32_t reduction, uint64_t one, uint64_t o
     return (one < other) == (reduction == EDGEBPF_MIN) ? one : other;
 }
 
-/* Goes on with a run over the vertices from `first` on, as many as there are values, as edgebpf_pull_some does with a frontier that has
-   them in this order: no array of them is needed, but for EDGEBPF_WINDOW numbers on the stack. At the beginning `at` is 0 but for its
-   budget, and UINT64_MAX is enough for all. Statuses are those of edgebpf_pull_some; LENGTHS also for a range past 2^32. This function
-   is C, and only tested; the calls that it makes are proved. */
+/* Goes on with a run over the vertices from `first` on, as many as there are values, as edgebpf_pull_some does with a frontier that has them in
+   this order: no array of them is needed, but for EDGEBPF_WINDOW numbers on the stack. At the beginning `at` is 0 but for its budget, and
+   UINT64_MAX is enough for all. Statuses are those of edgebpf_pull_some; LENGTHS also for a range past 2^32, and that before EMPTY and
+   OTHER_KIND. This function is C, and only tested; the calls that it makes are proved. */
 static inline uint32_t edgebpf_pull_range(edgebpf_version *version, edgebpf_program *program, const uint8_t *argument,
                                           size_t argument_length, const edgebpf_column *columns, size_t column_count, uint32_t first,
                                           uint32_t reduction, edgebpf_progress *at, uint64_t *values, size_t value_count) {

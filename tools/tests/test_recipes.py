@@ -20,8 +20,8 @@ REPLAYED = {
         ],
         "121f2891": [],
     },
-    # What three weights had in common became one definition.
-    "A new cause of refusal": {"4fc6fea2": ["crates/verifier/specs/Walks.antt"]},
+    # What three weights had in common became one definition. The number of a cause stood in two crates then.
+    "A new cause of refusal": {"4fc6fea2": ["crates/verifier/specs/Walks.antt", "crates/script_model/specs/Texts.antt"]},
 }
 # Of a limit the recipe searches for its name and its digits: what stood before the commit.
 SEARCHED = {

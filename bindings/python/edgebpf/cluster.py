@@ -98,7 +98,7 @@ class Cluster:
         self, sources: npt.ArrayLike = (), targets: npt.ArrayLike = (), removes: npt.ArrayLike | None = None, *, edges: Pairs | None = None,
     ) -> Counts:
         """Applies one batch whose edits are in their order, as `Store.apply` does, and returns its `Counts` once all parts have it. The `version`
-        is its number. Raises what `begin` raises; then nothing was changed."""
+        is its number. Raises what `begin` and its future raise; then the batch is not committed."""
         return self._taken(*edits_of(sources, targets, removes, edges, self.vertices)).result()
 
     def batch(self, inserts: Edges = ((), ()), removes: Edges = ((), ()), edges: Pairs | None = None) -> Counts:

@@ -96,7 +96,7 @@ class Steps:
 
     @property
     def edges(self) -> int:
-        """How many edges have a number so far."""
+        """How many edges, or pairs, have a number so far."""
         return int(self._at.edges)
 
     @property
