@@ -98,7 +98,7 @@ class Cluster:
         self, sources: npt.ArrayLike = (), targets: npt.ArrayLike = (), removes: npt.ArrayLike | None = None, *, edges: Pairs | None = None,
     ) -> Counts:
         """Applies one batch whose edits are in their order, as `Store.apply` does, and returns its `Counts` once all parts have it. The `version`
-        is its number. Raises what `begin` and its future raise; then the batch is not committed."""
+        is its number. Raises what `begin` and its future raise. A batch under way when the cluster is closed is in doubt."""
         return self._taken(*edits_of(sources, targets, removes, edges, self.vertices)).result()
 
     def batch(self, inserts: Edges = ((), ()), removes: Edges = ((), ()), edges: Pairs | None = None) -> Counts:
@@ -267,7 +267,7 @@ class ClusterVersion:
         columns: Columns = NO_COLUMNS, changed: bool = False, seconds: float | None = None, threads: int = 1,
     ) -> Pushed:
         """Runs a program for each edge of some vertices, and reduces the number of each edge into the value of its target, as `Version.push` does. Each
-        part reduces into values of its own, which are joined with `into`. After an error `into` is as it was."""
+        part reduces into values of its own, which are joined with `into`. After an error of a part `into` is as it was."""
         inputs = self._inputs(argument, columns)
         values, ends = values_into(into, self.vertices, inputs.columns), (self._frontier(frontier),)
         _, answers = self._run(program, "push", reduction_of(reduction), ends, inputs, Effort(seconds, threads))

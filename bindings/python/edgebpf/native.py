@@ -451,7 +451,8 @@ class Version:
         return bool(answer[0])
 
     def are_components(self, labels: npt.ArrayLike, parents: npt.ArrayLike, steps: npt.ArrayLike) -> bool:
-        """Whether labels are the components of the graph, whatever the direction of its edges, and whoever computed them; the test is proved.
+        """Whether labels, parents and steps are an answer of the graph's components, whatever the direction of its edges, and whoever computed them; the
+        test is proved.
 
         labels: for each vertex the least one of its component. parents: for a vertex that is not its own label another one, to which an edge
         joins it. steps: one more for each vertex than for its parent, 0 for labels.
@@ -463,7 +464,7 @@ class Version:
         return bool(answer[0])
 
     def are_cores(self, numbers: npt.ArrayLike, places: npt.ArrayLike) -> bool:
-        """Whether numbers are the core numbers of the graph, whoever computed them; the test is proved.
+        """Whether numbers and places are an answer of the graph's core numbers, whoever computed them; the test is proved.
 
         numbers: for each vertex the greatest k for which it belongs to a set of vertices, of which each has edges to at least k others of it.
         places: for each vertex a place in an order. Taken out one after another, lower numbers first and those of one number by their places,

@@ -20,8 +20,9 @@ impl Version {
         answer == 1
     }
 
-    /// Whether labels are the components of the graph, whatever the direction of its edges: for each vertex the least one that is joined to it.
-    /// A vertex that is not its own label has a parent, to which an edge joins it, and one step more than that. The test is proved to be exact.
+    /// Whether labels, parents and steps are an answer of the graph's components, whatever the direction of its edges. The label of a vertex is the
+    /// least one that is joined to it. A vertex that is not its own label has a parent, to which an edge joins it, and one step more than that. The
+    /// test is proved to be exact.
     pub fn are_components(&self, labels: &[u32], parents: &[u32], steps: &[u32]) -> bool {
         let mut answer = 0;
         // SAFETY: the handle holds a version, and the arrays are as long as said.
@@ -41,9 +42,10 @@ impl Version {
         answer == 1
     }
 
-    /// Whether numbers are the core numbers of the graph: for each vertex the greatest k for which it belongs to a set of vertices, of which each
-    /// has edges to at least k others of it. `places` has the place of each vertex in an order: taken out one after another, lower numbers first and
-    /// those of one number by their places, each then has no more edges to others than its number. The test is proved to be exact.
+    /// Whether numbers and places are an answer of the graph's core numbers. The number of a vertex is the greatest k for which it belongs to a set
+    /// of vertices, of which each has edges to at least k others of it. `places` has the place of each vertex in an order: taken out one after
+    /// another, lower numbers first and those of one number by their places, each then has no more edges to others than its number. The test is
+    /// proved to be exact.
     pub fn are_cores(&self, numbers: &[u32], places: &[u32]) -> bool {
         let mut answer = 0;
         // SAFETY: the handle holds a version, and the arrays are as long as said.

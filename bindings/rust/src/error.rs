@@ -2,7 +2,7 @@
 use crate::program::explain;
 use std::fmt;
 
-/// Why a call did nothing. What it was called on is as it was.
+/// Why a call is not done. But for `NotShown`, what it was called on is as it was.
 #[derive(Clone, Copy, Debug, PartialEq, Eq, Hash)]
 #[non_exhaustive]
 pub enum Error {

@@ -13,7 +13,7 @@ const MOST_THREADS: usize = 64;
 /// How far some work has come. It is a plain value: it may be kept, sent, or written to a file, and work that begins with it goes on there.
 #[derive(Clone, Copy, Debug, Default, PartialEq, Eq, Hash)]
 pub struct Progress {
-    /// How many edges have a number.
+    /// How many edges, or pairs, have a number.
     pub edges: u64,
     /// What the numbers of these edges reduce to, for a run.
     pub total: u64,
@@ -342,7 +342,7 @@ impl<'c> WithColumns<'c> {
     }
 
     /// The numbers of pairs of a source and a target, of which none is there yet: each `step` goes on with them. `Lengths` where there are not
-    /// as many targets and numbers as sources, and `ArgumentLength`.
+    /// as many targets and numbers as sources, or 2^32 of them and more, and `ArgumentLength`.
     pub fn begin_pairs<'a>(
         self,
         program: &'a Program,
