@@ -288,8 +288,8 @@ static inline uint64_t edgebpf_join(uint32_t reduction, uint64_t one, uint64_t o
 
 /* Goes on with a run over the vertices from `first` on, as many as there are values, as edgebpf_pull_some does with a frontier that has them in
    this order: no array of them is needed, but for EDGEBPF_WINDOW numbers on the stack. At the beginning `at` is 0 but for its budget, and
-   UINT64_MAX is enough for all. Statuses are those of edgebpf_pull_some; LENGTHS also for a range past 2^32, and that before EMPTY and
-   OTHER_KIND. This function is C, and only tested; the calls that it makes are proved. */
+   UINT64_MAX is enough for all. Statuses are those of edgebpf_pull_some; LENGTHS also for a range past 2^32, and here it is tested
+   before EMPTY and OTHER_KIND. This function is C, and only tested; the calls that it makes are proved. */
 static inline uint32_t edgebpf_pull_range(edgebpf_version *version, edgebpf_program *program, const uint8_t *argument,
                                           size_t argument_length, const edgebpf_column *columns, size_t column_count, uint32_t first,
                                           uint32_t reduction, edgebpf_progress *at, uint64_t *values, size_t value_count) {
