@@ -1,5 +1,5 @@
 /* A heap that refuses the Nth request, for each N: the call answers that there is no memory, all is as it was, the same call
-   then succeeds, and at the end no block is left. It stands in place of heap.c. */
+   then succeeds, and at the end no block is left. It stands in place of heap.c. It also counts what a rebase frees. */
 #include "check.h"
 #include <stdbool.h>
 
@@ -154,9 +154,37 @@ static void check_lengths(void) {
     CHECK(asked == 0);
 }
 
+/* What batches took is free after a rebase, once no older version is open. A rebase itself keeps a block or two. */
+static void forgets_at_a_rebase(void) {
+    edgebpf_store store = {{0}};
+    edgebpf_version older = {{0}};
+    edgebpf_change change;
+    uint64_t epoch;
+    long kept = 0;
+    for (int i = 0; i < EDITS; i++) sources[i] = i * 5, targets[i] = i;
+    CHECK(edgebpf_store_new(VERTICES, &store) == EDGEBPF_DONE);
+    for (int round = 0; round < 2; round++) {
+        for (int batch = 0; batch < 40; batch++) {
+            memset(removes, batch % 2, sizeof removes);
+            CHECK(edgebpf_store_apply(&store, 0, sources, EDITS, targets, EDITS, removes, EDITS, &change) == EDGEBPF_DONE);
+            CHECK(change.added + change.removed == EDITS);
+            if (batch == 20) CHECK(edgebpf_store_pin(&store, &older) == EDGEBPF_DONE);
+        }
+        CHECK(edgebpf_store_rebase(&store, &epoch) == EDGEBPF_DONE);
+        const long held = blocks;
+        edgebpf_close_version(&older);
+        CHECK(held >= blocks + 40);
+        if (round == 0) kept = blocks;
+    }
+    CHECK(blocks <= kept + 2);
+    edgebpf_close_store(&store);
+    CHECK(blocks == 0);
+}
+
 int main(void) {
     long tries = 0;
     check_lengths();
+    forgets_at_a_rebase();
     do {
         edgebpf_store store = {{0}};
         refused_at = ++tries;
