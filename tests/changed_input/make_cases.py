@@ -36,7 +36,7 @@ def valid_programs():
         blocks = re.findall(r"^program \S+ (\d+)\n(.*?)^end$", script, re.M | re.S)
         texts += [(int(length), text.encode()) for length, text in blocks]
         images += [bytes.fromhex(image) for image in re.findall(r"^image \S+ ([0-9a-fA-F]+)$", script, re.M)]
-    rows = (ROOT / "crates/script_rows/stdin").read_text().partition("%^ compiled by clang\n")[2].partition("\n%! ")[0]
+    rows = (ROOT / "crates/test_script_rows/stdin").read_text().partition("%^ compiled by clang\n")[2].partition("\n%! ")[0]
     codes += [(int(length), bytes.fromhex(code)) for length, code in re.findall(r"^code \S+ (\d+) ([0-9a-fA-F]+)$", rows, re.M)]
     return codes, texts, images
 

@@ -1,5 +1,5 @@
 #!/usr/bin/env python3
-"""Compiles programs.c to BPF, and natively, and writes the rows of script_rows that serve them. See README.md."""
+"""Compiles programs.c to BPF, and natively, and writes the rows of test_script_rows that serve them. See README.md."""
 import pathlib
 import subprocess
 import tempfile
@@ -17,7 +17,7 @@ REFUSED = {
     "any_byte": (24, 11, 1), "stack_table": (16, 10, 12), "loop": (20, 3, 10), "lent_unset": (16, 12, 7),
     "chosen_room": (16, 13, 9), "pointer_vertex": (16, 13, 0), "wide_gather": (20, 11, 5), "sixth_helper": (16, 14, 1),
 }
-# The section of script_rows that has them, over the graph over which the native code runs.
+# The section of test_script_rows that has them, over the graph over which the native code runs.
 SECTION = "compiled by clang"
 HEAD = f'''\
 %^ {SECTION}
@@ -92,7 +92,7 @@ def main():
                          f"program {name} {extent(program)}\n" + "".join(run[1] for run in runs).replace("/", "\n")))
         for name, (length, cause, pc) in REFUSED.items():
             rows.append((name, [f"code {name} {length} {code(name).hex()}"], f"refused {name} cause {cause} pc {pc}\n"))
-    crate = here.parent.parent / "crates/script_rows"
+    crate = here.parent.parent / "crates/test_script_rows"
     # Scripts at the limits stand behind the section, and stay.
     before, _, behind = (crate / "stdin").read_text().partition(f"%^ {SECTION}\n")
     limits = behind.partition("\n%! ")[2]

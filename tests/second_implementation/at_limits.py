@@ -1,12 +1,12 @@
 #!/usr/bin/env python3
-"""What crates/script_rows has to print of scripts at the limits, by the second implementation: at_limits.py [RECIPES], or at_limits.py RECIPES NAME for one script
+"""What crates/test_script_rows has to print of scripts at the limits, by the second implementation: at_limits.py [RECIPES], or at_limits.py RECIPES NAME for one script
 and its text. See README.md."""
 import pathlib
 import sys
 
 from script import serve
 
-RECIPES = pathlib.Path(__file__).parent.parent.parent / "crates/script_rows/stdin"
+RECIPES = pathlib.Path(__file__).parent.parent.parent / "crates/test_script_rows/stdin"
 SIGNS = {"insert": "+", "remove": "-"}
 
 

@@ -36,7 +36,7 @@ def assembled(text):
 
 def of_scripts():
     """The programs of each script in examples/ and of the rows of scripts."""
-    paths = [*sorted((ROOT / "examples").rglob("*.script")), ROOT / "crates/script_rows/stdin"]
+    paths = [*sorted((ROOT / "examples").rglob("*.script")), ROOT / "crates/test_script_rows/stdin"]
     for path in paths:
         script = path.read_text(errors="replace")
         for length, code in re.findall(r"^code \S+ (\d+) ((?:[0-9a-fA-F]{2})+)$", script, re.M):
@@ -60,8 +60,8 @@ def bytes_of(words):
 
 
 def of_program_rows():
-    """The programs that crates/program_rows runs, verifies and explains."""
-    text = (ROOT / "crates/program_rows/stdin").read_text()
+    """The programs that crates/test_program_rows runs, verifies and explains."""
+    text = (ROOT / "crates/test_program_rows/stdin").read_text()
     for part in text.split("\n%% ")[1:]:
         head, _, lines = part.partition("\n")
         kind, _, number = head.partition(":")[0].partition(" ")

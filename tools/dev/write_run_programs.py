@@ -41,7 +41,7 @@ def of_examples():
 
 def of_compiled():
     """A line for each accepted program that clang compiled."""
-    rows = Path("crates/script_rows/stdin").read_text().partition("%^ compiled by clang\n")[2].partition("\n%! ")[0]
+    rows = Path("crates/test_script_rows/stdin").read_text().partition("%^ compiled by clang\n")[2].partition("\n%! ")[0]
     for row in rows.split("\n%% ")[1:]:
         if "\n%=\nprogram " in row:
             _, name, length, code = row.splitlines()[1].split()
@@ -50,5 +50,5 @@ def of_compiled():
 
 if __name__ == "__main__":
     programs = list(of_examples()) + list(of_compiled())
-    out = Path("crates/edgebpf_tests/src/runs/programs.rt")
+    out = Path("crates/test_calls/src/runs/programs.rt")
     out.write_text(HEAD + "\n".join(programs) + '";\n')

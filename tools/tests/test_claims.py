@@ -6,7 +6,7 @@ import unittest
 import documents
 
 CRATES = documents.ROOT / "crates"
-# Wrong bodies that something in the gate has to refuse by name, each with its crate and edit, its crate and law, or a row of program_rows.
+# Wrong bodies that something in the gate has to refuse by name, each with its crate and edit, its crate and law, or a row of test_program_rows.
 EDITS = {
     "bpf_machine/r1_left_set_after_a_helper", "verifier/argument_known_after_a_helper", "shards/changed_list_shared", "shards/edited_page_shared",
     "store/earlier_version_pinned", "store/earlier_epoch_pinned", "session/pin_of_another_epoch", "bpf_runs/table_written",
@@ -19,7 +19,7 @@ ROWS = {
     "a jump back is accepted", "falling off the end is not seen", "a caller's frame does not count in a run",
     "a caller's frame does not count in the verifier",
 }
-# The same of script_rows.
+# The same of test_script_rows.
 ROWS_OF_SCRIPTS = {"a push reduces each number into its edge's source", "a push reads what it writes", "a pull reads what it writes"}
 # So many lines of definitions are to be believed at most.
 MOST_TO_READ = 1_250
@@ -65,8 +65,8 @@ class WrongBodies(unittest.TestCase):
         self.assertEqual(count, 22)
 
     def test_rows(self):
-        """Each row that stands in place of an edit is one of program_rows, with this answer."""
-        lines = (CRATES / "program_rows" / "stdin").read_text().splitlines()
+        """Each row that stands in place of an edit is one of test_program_rows, with this answer."""
+        lines = (CRATES / "test_program_rows" / "stdin").read_text().splitlines()
         found = rows_under(page("GATE.md"), "## Rows in place of edits")
         self.assertEqual({body for body, _, _ in found}, ROWS)
         for _, row, answer in found:
@@ -75,8 +75,8 @@ class WrongBodies(unittest.TestCase):
             self.assertIn(f"{words_of(row)[0]} | {words_of(answer)[0]}", lines[begun:])
 
     def test_rows_of_scripts(self):
-        """Each row of script_rows that stands in place of an edit has this line in its answer, and the clause is of its crate."""
-        text = (CRATES / "script_rows" / "stdin").read_text()
+        """Each row of test_script_rows that stands in place of an edit has this line in its answer, and the clause is of its crate."""
+        text = (CRATES / "test_script_rows" / "stdin").read_text()
         found = rows_under(page("GATE.md"), "### Rows of scripts in place of edits")
         self.assertEqual({body for body, *_ in found}, ROWS_OF_SCRIPTS)
         for _, clause, row, answer in found:

@@ -62,7 +62,7 @@ class House(unittest.TestCase):
     def test_kinds(self):
         kinds = {crate: draw_house.kind_of(crate) for crate in self.uses}
         self.assertEqual({crate for crate, kind in kinds.items() if kind == "ends"}, {"edgebpf", "edgebpf_explain", "edgebpf_c"})
-        self.assertEqual({crate for crate, kind in kinds.items() if kind == "tests"}, {"edgebpf_tests", "program_rows", "script_rows", "refused_calls"})
+        self.assertEqual({crate for crate, kind in kinds.items() if kind == "tests"}, {"test_calls", "test_program_rows", "test_script_rows", "test_refused_calls"})
 
     def test_parts_of_the_architecture(self):
         """Its table names each crate once."""

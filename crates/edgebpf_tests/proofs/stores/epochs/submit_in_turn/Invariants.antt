@@ -1,6 +1,0 @@
-use Rattle.std.proofs.Common.{◌≡◌, map}
-use Rattle.store.specs.Ends.{as_new}
-use Rattle.edgebpf_tests.proofs.stores.epochs.submit_in_turn.Given as goal
-
-abbrev pub invariant-numbers : goal.invariant-numbers
-invariant-numbers g l = map as_new l.feeds ≡ map as_new l.fn.feeds

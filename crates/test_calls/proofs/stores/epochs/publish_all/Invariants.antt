@@ -1,0 +1,9 @@
+use Rattle.std.proofs.Common.{◌≡◌}
+use Rattle.history.specs.Moment.{OneStore}
+use Rattle.test_calls.proofs.stores.epochs.publish_all.Given as goal
+
+abbrev pub invariant-rounds : goal.invariant-rounds
+invariant-rounds g l = record {
+  queue : l.publisher.queue ≡ l.fn.publisher.queue;
+  store : OneStore l.fn.publisher.moment l.publisher.moment;
+}
