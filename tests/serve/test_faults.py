@@ -426,7 +426,7 @@ class Shown(WithEngine):
     """What readers may look back on."""
 
     def test_sources_that_changed(self):
-        """Of more groups than are kept the first are forgotten, and who asks for these is told to look at all."""
+        """Of more groups than are kept the first are forgotten, and who asks for these has to look at all."""
         engine = self.begun()
         with unittest.mock.patch.object(self.modules[1], "MOST_GROUPS", 2):
             for target in range(4):

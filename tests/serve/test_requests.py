@@ -365,7 +365,7 @@ class WrongForms(WithService):
         with self.served(body=1 << 16) as client:
             self.refused(413, client.batch, b"\0" * (1 << 17))
             self.refused(413, client.once, "POST", "/runs", b"\0" * (1 << 17))
-            # The rest of the body is not read, so the client is told to send nothing more by this connection.
+            # The rest of the body is not read, so the answer says to send nothing more by this connection.
             with contextlib.closing(http.client.HTTPConnection(client.url.removeprefix("http://"), timeout=20)) as connection:
                 connection.putrequest("POST", "/batches")
                 connection.putheader("Content-Type", "application/octet-stream")
