@@ -70,7 +70,8 @@ impl Model for Image {
 
     ghost view = { λ a. record { code = a.code.items; record_length = a.record_length; table = table_bytes a.table } };
 
-    ghost invariant = { λ a. IsImage (record { code = a.code.items; record_length = a.record_length; table = table_bytes a.table }) };
+    ghost invariant = { λ a. IsImage
+        (record { code = a.code.items; record_length = a.record_length; table = table_bytes a.table }) };
 }
 
 impl Image {
@@ -140,7 +141,9 @@ impl Image {
         ensures code { IsErrAnd result (λ e. e.2 ≡ ImageError.CodeLength)
             ↔ (IsRecordLength record_length × (¬ IsCodeLength (length code.items))) }
         ensures table { IsErrAnd result (λ e. e.2 ≡ ImageError.TableLength)
-            ↔ (IsRecordLength record_length × IsCodeLength (length code.items) × (¬ IsTableLength (length table.items))) }
+            ↔ (IsRecordLength record_length
+            × IsCodeLength (length code.items)
+            × (¬ IsTableLength (length table.items))) }
 
         // On an error code and table come back.
         ensures kept { IfErr result (λ e. (e.0 ≡ code) × (e.1 ≡ table)) }

@@ -85,7 +85,7 @@ impl<'a> Cursor<'a> {
         }
     }
 
-    /// What is left after so many neighbours. If none is passed, nothing is looked at.
+    /// What is left after so many neighbours. If none is left out, nothing is looked at.
     pub fn skip(self, count: u32) -> Cursor<'a>
         ensures { result ≡ drop count self.entry }
     {

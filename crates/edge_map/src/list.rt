@@ -164,8 +164,8 @@ pub(crate) fn list_version<'a>(
 
 /// All edges of a pin's version, sources ascending and targets ascending for each, each with the number that a verified
 /// program exits with on a record of the edge's own; no edge is left out (`edge_fold::laws`). `ArgumentLength` exactly
-/// where the argument does not have the record's length less 16 bytes, and no other error. It runs nothing and takes no memory yet: the edges are run block
-/// by block, by the thread that asks for them.
+/// where the argument does not have the record's length less 16 bytes, and no other error. It runs nothing and takes no
+/// memory yet: the edges are run block by block, by the thread that asks for them.
 pub fn list_edges<'a>(
     pin: &'a Pin,
     program: &'a Verified,

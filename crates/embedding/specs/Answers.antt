@@ -1,4 +1,4 @@
--- What a host is told of an answer that it computed.
+-- What a host learns of an answer that it computed.
 use Rattle.std.specs.Prelude.{◌≡◌, ℕ, ◌≤◌}
 
 -- 1 if something holds, and 0 if it does not

@@ -7,9 +7,9 @@
 pub struct Progress {
     /// How much work the next call may do. It falls by what is done.
     pub budget: u64,
-    /// How many edges have a number.
+    /// How many edges, or pairs, have a number.
     pub edges: u64,
-    /// What the numbers of these edges reduce to.
+    /// What the numbers of these edges reduce to, for a run.
     pub total: u64,
     /// How many vertices of the frontier are done, or how many pairs. It is the place of the next one.
     pub vertex: u32,

@@ -46,8 +46,8 @@ impl<'a> Targets<'a> {
         }
     }
 
-    /// The next of them that lie side by side, which are not among them any more. There are none at the end alone. How a list is
-    /// cut into such slices is left open.
+    /// The next of them that lie side by side, which are not among them any more. It is `None` at the end alone. How a list is cut
+    /// into such slices is left open.
     pub fn next_slice(&mut self) -> Option<&'a [u32]>
         ensures { MatchOption result
             ((self.old ≡ []) × (self.new ≡ []))

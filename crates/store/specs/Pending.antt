@@ -48,7 +48,7 @@ abbrev pub entries_held : Option Entry → List Entry
 entries_held None = []
 entries_held (Some e) = e ∷ []
 
--- what the history is told of a batch, or of a rebase
+-- what the history learns of a batch, or of a rebase
 abbrev pub published_of : Option Entry → Published
 published_of (Some e) = Batch e
 published_of None = Rebase

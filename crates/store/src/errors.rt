@@ -61,13 +61,13 @@ pub struct SubmitError {
 /// Why no batch was published.
 #[derive(Clone, Copy, Debug, PartialEq, Eq, Error)]
 pub enum PublishError {
-    /// There is no memory for the next version. A batch that was taken is held, and the next step begins with it.
+    /// There is no memory for the next version. A batch that was taken is held, and is the next one that a step publishes.
     #[error("out of memory")]
     OutOfMemory = 1,
     /// 4,096 batches were published since the last rebase, and there is room for no more before the next one.
     #[error("4096 batches were published, and there is room for no more before a rebase")]
     LogFull = 2,
-    /// A thread could not be started. The batch is held, and the next step begins with it.
+    /// A thread could not be started. The batch is held, and is the next one that a step publishes.
     #[error("a worker could not be started")]
     WorkerRefused = 3,
 }

@@ -82,7 +82,7 @@ impl Publisher {
             return Err(PublishError::LogFull);
         }
         if let Some(pending) = self.pending.take() {
-            // A rebase that is not shown yet comes first.
+            // A batch that waits is shown. A rebase that waits comes back, and is left to `rebase`.
             return match self.committer.publish(pending, rt, workers) {
                 Ok(receipt) => Ok(Some(receipt)),
                 Err(pending) => {
@@ -118,7 +118,8 @@ impl Publisher {
 
     /// Publishes the graph of the last version as the base of a new epoch, whose log is empty. Numbers begin again at 0, and
     /// homes stay as they are. A held batch stays held. It may wait for readers. `EpochsFull` comes exactly after 1,024
-    /// rebases. After an error nothing is changed.
+    /// rebases. Where a batch waits to be shown, the answer is `OutOfMemory` until a step has shown it. After an error
+    /// nothing is changed.
     pub fn rebase<R: Wait>(&mut self, rt: &R) -> Result<Receipt, RebaseError>
         ensures same_queue { self.new.queue ≡ self.old.queue }
         ensures same_store { OneStore self.old.moment self.new.moment }

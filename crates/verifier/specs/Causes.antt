@@ -1,4 +1,4 @@
--- The numbers by which people are told of causes.
+-- The numbers that people read for causes.
 use Rattle.std.specs.Prelude.{ℕ}
 use Rattle.bpf_model.specs.declared.cause.Cause.{Cause}
 use Rattle.bpf_model.specs.declared.cause.Cause.TheVariants as causes
