@@ -2,7 +2,7 @@
 ghost use Rattle.std.specs.Prelude.{◌≡◌, ◌+◌, ◌≤◌, ◌++◌, length, drop};
 ghost use Rattle.past_model.specs.declared.limits.TheConstants.{MOST_VERTICES};
 ghost use Rattle.graph_model.specs.Graph.{degree as degree_of};
-ghost use Rattle.graph_model.specs.Graph.{edge_count, numbers_below};
+ghost use Rattle.graph_model.specs.Graph.{edge_count, neighbours, numbers_below};
 ghost use Rattle.past_model.specs.Past.{graph_of};
 ghost use Rattle.map_model.specs.EdgeMap.{exits_with, all_with};
 ghost use Rattle.verifier.specs.Walks.{longest};
@@ -19,6 +19,7 @@ use crate::memory::Memory;
 use crate::running::run_edge;
 use crate::span::Span;
 use bpf_blocks::LANES;
+use cursors::Cursor;
 
 /// Writes the numbers of a span's first edges to the first places, if there are edges enough for a block and it can be run at
 /// once. Returns how many; 0 if it cannot.
@@ -113,19 +114,26 @@ fn number_span(mapped: &Mapped<'_>, memory: &mut Memory, span: Span<'_>, numbers
     }
 }
 
-/// Writes the numbers of a vertex's edges.
-fn number_vertex(mapped: &Mapped<'_>, memory: &mut Memory, source: u32, numbers: &mut [u64])
+/// Writes the numbers of a vertex's edges, whose targets a cursor lends.
+fn number_vertex(
+    mapped: &Mapped<'_>,
+    memory: &mut Memory,
+    source: u32,
+    cursor: Cursor<'_>,
+    numbers: &mut [u64],
+)
+    requires cursor { cursor ≡ neighbours (graph_of mapped.now.version.now) source }
     requires long { length numbers.old ≡ degree_of (graph_of mapped.now.version.now) source }
     requires memory { IsFor mapped.now.program.now memory.old }
     ensures numbers { let m = mapped.now in let p = m.program.now in
         numbers.new ≡ exits_with p (longest p) (graph_of m.version.now) (inputs_of m) source }
     ensures memory { IsFor mapped.now.program.now memory.new }
 {
-    let mut cursor = mapped.version.cursor(source);
-    let degree = cursor.left();
+    let mut rest = cursor;
+    let degree = rest.left();
     let mut place = 0u32;
     'slices: while place < degree {
-        let Some(targets) = cursor.next_slice() else {
+        let Some(targets) = rest.next_slice() else {
             unreachable!()
         };
         let span = Span {
@@ -151,8 +159,9 @@ pub fn number_edges(mapped: &Mapped<'_>, memory: &mut Memory, numbers: &mut [u64
 {
     let mut at = 0usize;
     'sources: for source in 0..mapped.version.vertex_count() {
-        let end = at + mapped.version.degree(u64::from(source)) as usize;
-        number_vertex(mapped, memory, source, &mut numbers[at..end]);
+        let cursor = mapped.version.cursor(source);
+        let end = at + cursor.left() as usize;
+        number_vertex(mapped, memory, source, cursor, &mut numbers[at..end]);
         at = end;
     }
 }

@@ -15,35 +15,35 @@ pub overflow_add-end : goal.overflow_add-end
 overflow_add-end c =
     let g = graph_of c.args.mapped.now.version.now in
     let below : c.sources.source < g.vertex_count = omega (arith, c.sources-test.true, c.vertex_count-source-end.ensures.value, vertex_count-graph_of c.args.mapped.now.version.now) in
-    let many : c.degree.result ≡ degree g c.sources.source = c.degree.ensures.value ∙ ap (degree g) c.from.ensures in
-    let left : c.sources.at + c.degree.result ≤ length c.sources.numbers = omega (arith, places_left g c.sources.source c.sources.at below c.sources.invariant.0.place, many, c.sources.invariant.0.long) in
+    let many : c.left.result ≡ degree g c.sources.source = c.left.ensures.value ∙ ap length c.cursor-cursor.ensures in
+    let left : c.sources.at + c.left.result ≤ length c.sources.numbers = omega (arith, places_left g c.sources.source c.sources.at below c.sources.invariant.0.place, many, c.sources.invariant.0.long) in
     search (rules, left)
 
 pub offset_bounds-numbers-at : goal.offset_bounds-numbers-at
 offset_bounds-numbers-at c =
     let g = graph_of c.args.mapped.now.version.now in
     let below : c.sources.source < g.vertex_count = omega (arith, c.sources-test.true, c.vertex_count-source-end.ensures.value, vertex_count-graph_of c.args.mapped.now.version.now) in
-    let many : c.degree.result ≡ degree g c.sources.source = c.degree.ensures.value ∙ ap (degree g) c.from.ensures in
-    let left : c.sources.at + c.degree.result ≤ length c.sources.numbers = omega (arith, places_left g c.sources.source c.sources.at below c.sources.invariant.0.place, many, c.sources.invariant.0.long) in
+    let many : c.left.result ≡ degree g c.sources.source = c.left.ensures.value ∙ ap length c.cursor-cursor.ensures in
+    let left : c.sources.at + c.left.result ≤ length c.sources.numbers = omega (arith, places_left g c.sources.source c.sources.at below c.sources.invariant.0.place, many, c.sources.invariant.0.long) in
     search (rules, left)
 
 pub slice_bounds-number_vertex-end : goal.slice_bounds-number_vertex-end
 slice_bounds-number_vertex-end c =
     let g = graph_of c.args.mapped.now.version.now in
     let below : c.sources.source < g.vertex_count = omega (arith, c.sources-test.true, c.vertex_count-source-end.ensures.value, vertex_count-graph_of c.args.mapped.now.version.now) in
-    let many : c.degree.result ≡ degree g c.sources.source = c.degree.ensures.value ∙ ap (degree g) c.from.ensures in
-    let left : c.sources.at + c.degree.result ≤ length c.sources.numbers = omega (arith, places_left g c.sources.source c.sources.at below c.sources.invariant.0.place, many, c.sources.invariant.0.long) in
+    let many : c.left.result ≡ degree g c.sources.source = c.left.ensures.value ∙ ap length c.cursor-cursor.ensures in
+    let left : c.sources.at + c.left.result ≤ length c.sources.numbers = omega (arith, places_left g c.sources.source c.sources.at below c.sources.invariant.0.place, many, c.sources.invariant.0.long) in
     left
 
 pub sources-preserved : goal.sources-preserved
 sources-preserved c =
     let g = graph_of c.args.mapped.now.version.now in
     let below : c.sources.source < g.vertex_count = omega (arith, c.sources-test.true, c.vertex_count-source-end.ensures.value, vertex_count-graph_of c.args.mapped.now.version.now) in
-    let many : c.degree.result ≡ degree g c.sources.source = c.degree.ensures.value ∙ ap (degree g) c.from.ensures in
-    let left : c.sources.at + c.degree.result ≤ length c.sources.numbers = omega (arith, places_left g c.sources.source c.sources.at below c.sources.invariant.0.place, many, c.sources.invariant.0.long) in
+    let many : c.left.result ≡ degree g c.sources.source = c.left.ensures.value ∙ ap length c.cursor-cursor.ensures in
+    let left : c.sources.at + c.left.result ≤ length c.sources.numbers = omega (arith, places_left g c.sources.source c.sources.at below c.sources.invariant.0.place, many, c.sources.invariant.0.long) in
     let at = c.sources.at in
-    let size = at + c.degree.result - at in
-    let same : size ≡ c.degree.result = omega arith in
+    let size = at + c.left.result - at in
+    let same : size ≡ c.left.result = omega arith in
     let old = take size (drop at c.sources.numbers) in
     let kept : length c.number_vertex.new.numbers ≡ length old = c.number_vertex.auto.numbers in
     let long : length c.number_vertex.new.numbers ≡ size =

@@ -10,7 +10,7 @@ use Rattle.edge_fold.specs.Inputs.{inputs_of}
 
 pub slices-init : goal.slices-init
 slices-init c = record {
-  rest = sym c.cursor-cursor.ensures;
+  rest = sym c.requires.cursor;
   memory = c.requires.memory;
   written = record { within = omega arith; long = c.requires.long; written = refl };
 }
@@ -23,15 +23,15 @@ pub unreachable-requires : goal.unreachable-requires
 unreachable-requires c =
     let ended = (nothing_left c.next_slice.result _ _ c.next_slice.ensures.lent c.in_default.not-Some).0 in
     let past : length (neighbours (graph_of c.args.mapped.now.version.now) c.args.source) ≤ c.slices.place = none_left _ _ (c.slices.invariant.rest ∙ ended) in
-    omega (arith, past, c.slices-test.true, c.left-degree.ensures.value, ap length c.cursor-cursor.ensures)
+    omega (arith, past, c.slices-test.true, c.left-degree.ensures.value, ap length c.requires.cursor)
 
 pub overflow_cast-place : goal.overflow_cast-place
 overflow_cast-place c =
-    omega (arith, few_in_row (neighbours (graph_of c.args.mapped.now.version.now) c.args.source) c.in-Some.targets.now c.next_slice.new.self c.slices.place c.left-degree.result (c.slices.invariant.rest ∙ c.in-Some.ensures.lent.1) c.slices.invariant.written.within (c.left-degree.ensures.value ∙ ap length c.cursor-cursor.ensures) c.left-degree.ensures.small)
+    omega (arith, few_in_row (neighbours (graph_of c.args.mapped.now.version.now) c.args.source) c.in-Some.targets.now c.next_slice.new.self c.slices.place c.left-degree.result (c.slices.invariant.rest ∙ c.in-Some.ensures.lent.1) c.slices.invariant.written.within (c.left-degree.ensures.value ∙ ap length c.requires.cursor) c.left-degree.ensures.small)
 
 pub overflow_add-place : goal.overflow_add-place
 overflow_add-place c =
-    omega (arith, few_in_row (neighbours (graph_of c.args.mapped.now.version.now) c.args.source) c.in-Some.targets.now c.next_slice.new.self c.slices.place c.left-degree.result (c.slices.invariant.rest ∙ c.in-Some.ensures.lent.1) c.slices.invariant.written.within (c.left-degree.ensures.value ∙ ap length c.cursor-cursor.ensures) c.left-degree.ensures.small)
+    omega (arith, few_in_row (neighbours (graph_of c.args.mapped.now.version.now) c.args.source) c.in-Some.targets.now c.next_slice.new.self c.slices.place c.left-degree.result (c.slices.invariant.rest ∙ c.in-Some.ensures.lent.1) c.slices.invariant.written.within (c.left-degree.ensures.value ∙ ap length c.requires.cursor) c.left-degree.ensures.small)
 
 pub slice_bounds-number_span-end : goal.slice_bounds-number_span-end
 slice_bounds-number_span-end c =
@@ -71,4 +71,4 @@ slices-preserved c =
 
 pub returns-clause-numbers : goal.returns-clause-numbers
 returns-clause-numbers c =
-    all_written c.args.mapped.now.program.now (graph_of c.args.mapped.now.version.now) (inputs_of c.args.mapped.now) c.args.source 0 (neighbours (graph_of c.args.mapped.now.version.now) c.args.source) c.slices.numbers c.slices.place c.slices.invariant.written (omega (arith, c.slices-test.false, c.left-degree.ensures.value, ap length c.cursor-cursor.ensures))
+    all_written c.args.mapped.now.program.now (graph_of c.args.mapped.now.version.now) (inputs_of c.args.mapped.now) c.args.source 0 (neighbours (graph_of c.args.mapped.now.version.now) c.args.source) c.slices.numbers c.slices.place c.slices.invariant.written (omega (arith, c.slices-test.false, c.left-degree.ensures.value, ap length c.requires.cursor))

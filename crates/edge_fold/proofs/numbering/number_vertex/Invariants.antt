@@ -8,10 +8,10 @@ use Rattle.edge_fold.specs.Inputs.{inputs_of}
 
 abbrev pub invariant-slices : goal.invariant-slices
 invariant-slices l = record {
-  rest : drop l.place (neighbours (graph_of l.mapped.version.now) l.source) ≡ l.cursor;
+  rest : drop l.place (neighbours (graph_of l.mapped.version.now) l.source) ≡ l.rest;
   memory : IsFor l.mapped.program.now l.memory;
   written : IsWritten l.mapped.program.now (graph_of l.mapped.version.now) (inputs_of l.mapped) l.source 0 (neighbours (graph_of l.mapped.version.now) l.source) l.numbers l.place;
 }
 
 abbrev pub decreases-slices : goal.decreases-slices
-decreases-slices l = length l.cursor
+decreases-slices l = length l.rest
