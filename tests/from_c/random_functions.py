@@ -13,7 +13,7 @@ from concurrent.futures import ProcessPoolExecutor
 from functools import partial
 
 ROOT = pathlib.Path(__file__).resolve().parent.parent.parent
-sys.path[:0] = [str(ROOT / "tools/tests"), str(ROOT / "tests/second_implementation")]
+sys.path[:0] = [str(ROOT / "tools/tests"), str(ROOT / "tests/second_implementation"), str(ROOT / "bindings/python")]
 
 import random_c  # noqa: E402
 from test_from_c import LEVELS, MOST, OneGraph, VERTICES, link, native_library, objects_of  # noqa: E402
@@ -50,6 +50,11 @@ def source_of(numbers):
     return "#include <edgebpf.h>\n" + "".join((WithTable if has_table(number) else random_c.RandomFunction)(number).text() for number in numbers)
 
 
+def drawn_column(choice):
+    """A number for each vertex: small ones, and any."""
+    return [choice.choice([choice.randrange(9), choice.getrandbits(64)]) for _ in range(VERTICES)]
+
+
 class Piece:
     """Some functions, and what each gives over the graph."""
 
@@ -66,20 +71,33 @@ class Piece:
         # Another level than those that are compared.
         self.library = native_library(folder, "-O0", [self.path])
         self.graph.hand_to(self.library)
+        self.columns = {number: drawn_column(choice) for number in numbers}
         self.answers = {}
 
     def answer(self, number, argument):
         """The numbers of native code over all edges."""
         if (number, argument) not in self.answers:
-            function = getattr(self.library, f"random_{number}")
-            function.restype, function.argtypes = ctypes.c_uint64, [ctypes.c_void_p, ctypes.c_uint64, ctypes.c_char_p]
-            found = []
-            for source, target, place in self.graph.edges:
-                record = b"".join(word.to_bytes(4, "little") for word in (source, target, place, len(self.graph.lists[source]))) + argument
-                room = ctypes.create_string_buffer(record, len(record))
-                found.append(function(ctypes.addressof(room), len(record), self.tables[number]))
-            self.answers[number, argument] = found
+            self.answers[number, argument] = self.over_edges(number, lambda source, target: argument)
         return self.answers[number, argument]
+
+    def answer_of_column(self, number):
+        """The same with the column's two numbers for an edge in place of the argument, which is as long."""
+        if number not in self.answers:
+            column = self.columns[number]
+            self.answers[number] = self.over_edges(number, lambda *ends: b"".join(column[end].to_bytes(8, "little") for end in ends))
+        return self.answers[number]
+
+    def over_edges(self, number, rest):
+        """The numbers of native code over all edges, whose records end with what `rest` gives for an edge's ends."""
+        function = getattr(self.library, f"random_{number}")
+        function.restype, function.argtypes = ctypes.c_uint64, [ctypes.c_void_p, ctypes.c_uint64, ctypes.c_char_p]
+        found = []
+        for source, target, place in self.graph.edges:
+            words = b"".join(word.to_bytes(4, "little") for word in (source, target, place, len(self.graph.lists[source])))
+            record = words + rest(source, target)
+            room = ctypes.create_string_buffer(record, len(record))
+            found.append(function(ctypes.addressof(room), len(record), self.tables[number]))
+        return found
 
     def programs(self, level, counts):
         """The code of each function: as it is, or with opaque indices if it is refused so."""
@@ -133,12 +151,41 @@ def script_of(piece, level, counts):
     return lines, wanted
 
 
-def compared(program, numbers):
-    """What was counted of some functions; it tells where a script is served otherwise."""
+def compare_columns(piece, level, counts):
+    """Runs the functions with a column by the Python package: numbers, a run and a push, beside native code."""
+    import edgebpf
+    import numpy
+    store = edgebpf.Store(VERTICES)
+    store.batch("A", edges=[(source, target) for source, target, _ in piece.graph.edges])
+    version = store.pin()
+    for name, number, code, verdict in piece.programs(level, counts):
+        if isinstance(verdict, Refused):
+            continue
+        program = edgebpf.Program(code, random_c.LENGTH, piece.tables[number])
+        lent, wanted = {"columns": [numpy.array(piece.columns[number], numpy.uint64)]}, piece.answer_of_column(number)
+        rows, gone = [0] * VERTICES, [0] * VERTICES
+        for (source, target, _), value in zip(piece.graph.edges, wanted):
+            rows[source] = rows[source] + value & MOST
+            gone[target] = gone[target] + value & MOST
+        run = version.run(program, "sum", **lent)
+        into = numpy.zeros(VERTICES, numpy.uint64)
+        version.push(program, "sum", into=into, **lent)
+        found = version.numbers(program, **lent).tolist(), run.values.tolist(), into.tolist()
+        counts["numbers compared"] += len(wanted)
+        if found != (wanted, rows, gone):
+            counts["different"] += 1
+            print(f"functions from {piece.numbers[0]}, {level}, {name} with a column: other numbers", flush=True)
+
+
+def compared(program, has_columns, numbers):
+    """What was counted of some functions; it tells where a script is served otherwise, or numbers with a column are others."""
     counts = Counter()
     with tempfile.TemporaryDirectory() as folder:
         piece = Piece(numbers, folder)
         for level in LEVELS:
+            if has_columns:
+                compare_columns(piece, level, counts)
+                continue
             lines, wanted = script_of(piece, level, counts)
             ended = served(program, 2, "".join(f"{line}\n" for line in lines).encode(), SECONDS)
             text = "".join(f"{line}\n" for line in wanted)
@@ -158,18 +205,19 @@ def arguments():
     words.add_argument("--from", type=int, default=0, dest="first", help="the number of the first one (0)")
     words.add_argument("--processes", type=int, default=os.cpu_count(), help="how many processes work side by side (as many as cores)")
     words.add_argument("--program", type=pathlib.Path, default=PROGRAM, help="the program that runs them")
+    words.add_argument("--columns", action="store_true", help="by the Python package, with a column in place of the argument")
     return words.parse_args()
 
 
 def main():
     said = arguments()
-    if not said.program.exists():
+    if not said.columns and not said.program.exists():
         sys.exit(f"random_functions.py: {said.program} is not there: build it by tools/prove edgebpf, or name another by --program")
     last = said.first + said.count
     pieces = [range(start, min(start + PIECE, last)) for start in range(said.first, last, PIECE)]
     counts = Counter()
     with ProcessPoolExecutor(said.processes) as pool:
-        for done, found in enumerate(pool.map(partial(compared, said.program), pieces), 1):
+        for done, found in enumerate(pool.map(partial(compared, said.program, said.columns), pieces), 1):
             counts += found
             print(f"{done} of {len(pieces)} pieces, {counts['different']} scripts with another output", flush=True)
     for kind, times in sorted(counts.items()):
