@@ -24,12 +24,12 @@ def child(options, out):
     """A service until it ends. SIGUSR1 has it print where its threads are."""
     faulthandler.register(signal.SIGUSR1, all_threads=True)
     try:
-        kept = disk.Disk(options.data, options.vertices, **FOLDER, reserve=options.reserve_bytes)
-        asyncio.run(app.serve(kept, options, command.log, lambda service, server: say(out, port=server.sockets[0].getsockname()[1])))
+        with command.stopping(options):
+            kept = disk.Disk(options.data, options.vertices, **FOLDER, reserve=options.reserve_bytes)
+            asyncio.run(app.serve(kept, options, command.log, lambda service, server: say(out, port=server.sockets[0].getsockname()[1])))
         status = 0
-    except disk.Wrong as error:
-        command.log("wrong", error=str(error))
-        status = limits.NO_ROOM_YET if isinstance(error, disk.Full) else limits.WRONG_FOLDER
+    except SystemExit as end:
+        status = end.code
     except BaseException as error:
         command.log("failed", error=f"{type(error).__name__}: {error}")
         status = 1

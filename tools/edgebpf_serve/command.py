@@ -1,6 +1,7 @@
 """The command `edgebpf-serve`."""
 import argparse
 import asyncio
+import contextlib
 import dataclasses
 import functools
 import json
@@ -115,11 +116,18 @@ def stop(words, status=WRONG_FOLDER):
 def main_serve(words):
     options = parsed(words)
     begin_log()
-    try:
+    with stopping(options):
         disk = Disk(options.data, options.vertices, reserve=options.reserve_bytes)
         if not is_near(options.listen) and not options.open and not read(disk.db):
             stop(f"{options.listen} is reached by other machines, and {options.data} has no tokens: make one by edgebpf-serve token, or say --open")
         asyncio.run(serve(disk, options, log))
+
+
+@contextlib.contextmanager
+def stopping(options):
+    """Ends the process with words and a status where the folder is wrong, or the address is taken."""
+    try:
+        yield
     except Wrong as error:
         stop(str(error), NO_ROOM_YET if isinstance(error, Full) else WRONG_FOLDER)
     except (Damaged, sqlite3.Error) as error:
