@@ -1,8 +1,9 @@
 #!/usr/bin/env python3
 """Measures what workers gain, in milliseconds of wall time: measure_threads.py [PROGRAM] [--write]. All other work of the machine has to rest.
 
-A run is timed from its line to its first line of text, and a publication from `end` to its receipt. Each figure is a median. With --write the figures
-go into docs/figures/threads.txt, and the ratios of the first and the last row are a row more of threads_by_sitting.txt.
+A run is timed from its line to its first line of text, and a publication from `end` to its receipt. Each figure is a median. The CPU time of batches
+is that of the process, with the reading of their lines, and the least of some sittings. With --write the figures go into docs/figures/threads.txt and
+threads_cpu.txt, and the ratios of the first and the last row are a row more of threads_by_sitting.txt. With --cpu only CPU time is measured.
 """
 import random
 import statistics
@@ -15,6 +16,8 @@ from count_hubs import MOST_EDITS, PROGRAM, VERTICES, batch
 
 WORKERS = (1, 2, 4)
 RUNS, BATCHES = 20, 16
+# For CPU time: how many edits a batch has, and how many batches are measured at once, so often.
+CPU_BATCHES, SITTINGS = ((2, 2_000), (8, 2_000), (64, 1_000), (1_024, 60), (MOST_EDITS, 6)), 3
 SOURCES, TARGETS, RANGE = 4_096, 1_000, 256
 # How long the program may take to read the edits that it was sent, in seconds.
 READING = 0.3
@@ -68,6 +71,10 @@ class Served:
         self.until(word)
         return time.perf_counter() - begin
 
+    def cpu_seconds(self):
+        """The CPU time of the process so far, of threads that ended, too. A process's clock has the number ~pid * 8 + 2."""
+        return time.clock_gettime(~self.process.pid << 3 | 2)
+
     def publish(self, edits):
         self.send(*batch(edits))
         self.until(b"batch ")
@@ -119,6 +126,32 @@ def publication_seconds(program, workers):
         return statistics.median(times)
 
 
+def batch_microseconds(program, workers, edits, batches):
+    """CPU time of a batch of random edits of a loaded graph."""
+    choice, times = random.Random(3), []
+    with loaded(program, workers, VERTICES) as served:
+        for _ in range(SITTINGS):
+            served.rest()
+            lines = [batch(f"{choice.choice('+-')} {choice.randrange(SOURCES)} {choice.randrange(VERTICES)}" for _ in range(edits)) for _ in range(batches)]
+            before = served.cpu_seconds()
+            for each in lines:
+                served.send(*each)
+                served.until(b"batch ")
+            times.append((served.cpu_seconds() - before) / batches)
+            served.send("rebase")
+            served.until(b"rebase ")
+    return 1e6 * min(times)
+
+
+def measure_cpu(program):
+    """For each size of a batch its words, the microseconds of CPU time by each number of workers, and the ratio of the last to the first."""
+    for edits, batches in CPU_BATCHES:
+        found = [batch_microseconds(program, workers, edits, batches) for workers in WORKERS]
+        row = [f"{edits:,} random edits", *(f"{it:,.0f}" for it in found), f"{found[-1] / found[0]:.2f}"]
+        print(figures.line_of(row), flush=True)
+        yield row
+
+
 def measure(program):
     """For each kind of work its words, the milliseconds by each number of workers, and the ratio of the last to the first."""
     for what, seconds in (
@@ -134,11 +167,17 @@ def measure(program):
 
 
 def main():
-    words = [word for word in sys.argv[1:] if word != "--write"]
-    rows, when = list(measure(words[0] if words else PROGRAM)), figures.now()
+    words = [word for word in sys.argv[1:] if not word.startswith("--")]
+    program, heads = words[0] if words else PROGRAM, ("1 worker", *map(str, WORKERS[1:]), f"{WORKERS[-1]} by 1")
+    when = figures.now()
+    if "--cpu" not in sys.argv:
+        rows = list(measure(program))
+        if "--write" in sys.argv:
+            figures.write("threads", ("Milliseconds of wall time", *heads), rows, when)
+            figures.add("threads_by_sitting", [when, rows[0][-1], rows[-1][-1], rows[-1][1]])
+    rows = list(measure_cpu(program))
     if "--write" in sys.argv:
-        figures.write("threads", ("Milliseconds of wall time", "1 worker", *map(str, WORKERS[1:]), f"{WORKERS[-1]} by 1"), rows, when)
-        figures.add("threads_by_sitting", [when, rows[0][-1], rows[-1][-1], rows[-1][1]])
+        figures.write("threads_cpu", ("Microseconds of CPU time of a batch, with its lines", *heads), rows, when)
 
 
 if __name__ == "__main__":
