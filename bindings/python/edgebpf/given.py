@@ -144,8 +144,15 @@ def columns(sources: npt.ArrayLike, targets: npt.ArrayLike, count: int) -> Ends:
     return ends
 
 
+def looks_like_columns(edges: Any) -> bool:
+    """Whether someone may mean by two items in a tuple the sources and the targets, and not two edges."""
+    return isinstance(edges, tuple) and len(edges) == 2 and all(isinstance(item, (list, np.ndarray)) for item in edges)
+
+
 def pairs_of(edges: Pairs, count: int) -> Ends:
     """The sources and the targets of a list of pairs."""
+    if looks_like_columns(edges):
+        raise ValueError("edges are a list of pairs, and these may be sources and targets: pass those by inserts= and removes=, or to apply")
     array = given_array(edges, "edges")
     if array.size == 0 and array.shape in ((0,), (0, 2)):
         array = np.empty((0, 2), np.uint32)

@@ -327,6 +327,11 @@ class Package(unittest.TestCase):
             self.assertEqual(store.batch("A", removes=edges).removed, 2)
         with self.assertRaisesRegex(ValueError, "there is edges=$"):
             store.batch("A", np.array([(0, 2), (1, 3), (1, 3)]))
+        # Where pairs are wanted, two columns in a tuple are refused however long they are, so that two of two are never read as two edges.
+        for edges in (([0, 1], [2, 3]), (np.array([0, 1]), np.array([2, 3])), ([0, 1, 1], [2, 3, 4]), ([], [])):
+            for call in (store.apply, store.batch):
+                with self.assertRaisesRegex(ValueError, "^edges are a list of pairs, and these may be sources and targets"):
+                    call(edges=edges)
         counts = store.batch("A", ([0, 1], [2, 3]), ([4], [4]), edges=[(4, 4), (4, 0)])
         self.assertEqual((counts.added, counts.removed, store.pin().neighbours(4).tolist()), (3, 0, [0]))
         for edges in ([], (), np.empty((0, 2), int), np.empty((0, 2))):
