@@ -33,8 +33,8 @@ MOST_DIGITS = 20
 # Of a wrong word so many characters are shown.
 MOST_SHOWN = 40
 JSON, BYTES = "application/json", "application/octet-stream"
-# Statuses that ask to come again.
-LATER = (429, 503, 507)
+# Statuses that ask to come again, and the error among them that would be the same again, after as long a time.
+LATER, TOOK_TOO_LONG = (429, 503, 507), "TookTooLong"
 FIRST_PAUSE, MOST_PAUSE = 0.1, 5.0
 
 
@@ -87,7 +87,8 @@ class Unix(http.client.HTTPConnection):
 class Client:
     """A service at `http://HOST:PORT`, `https://HOST:PORT` or `unix:PATH`. Threads may use it at once: each has its own connection.
 
-    tries: how often a request is sent that got no answer, or 429, 503 or 507. Batches have ids, so that none takes effect twice.
+    tries: how often a request is sent that got no answer, or 429, 503 or 507. Batches have ids, so that none takes effect twice. A run that took
+    longer than it may is not sent again.
     """
 
     def __init__(self, url, token=None, timeout=60.0, tries=8):
@@ -233,7 +234,7 @@ class Client:
                 if not left:
                     raise
             except Error as error:
-                if not left or error.status not in LATER:
+                if not left or error.status not in LATER or error.error == TOOK_TOO_LONG:
                     raise
             time.sleep(pause * random.uniform(0.5, 1.0))
             pause = min(2 * pause, MOST_PAUSE)

@@ -466,6 +466,14 @@ class Clients(unittest.TestCase):
         sent = [(len(call.args[2]), call.args[3]["Idempotency-Key"]) for call in asked.call_args_list]
         self.assertEqual(sent, [(8 * 65_536, "a"), (8 * 65_536, "a-1"), (8, "a-2")])
 
+    def test_what_is_sent_again(self):
+        """What the service has no room for now comes again. A run that took too long does not: each try would take as long."""
+        self.client.tries = 3
+        for status, name, sent in ((503, "Busy", 3), (429, "TooFast", 3), (507, "NoRoom", 3), (503, "TookTooLong", 1), (422, "Unfit", 1)):
+            with self.patched("once", side_effect=Error(status, {"error": name})) as once, unittest.mock.patch("time.sleep"):
+                self.assertRaises(Error, self.client.run, "endless")
+            self.assertEqual((name, once.call_count), (name, sent))
+
     def test_the_greatest_source(self):
         """The bit above it would take an edge out."""
         with self.patched("_batch") as sent:
