@@ -150,7 +150,7 @@ class Client:
         return self._ask("/pairs", asked, **more)
 
     def _ask(self, path, asked, columns=(), version=None):
-        return self.json("POST", path + ("" if version is None else f"?version={version}"), {**asked, "columns": list(columns)})
+        return self.json("POST", path + ("" if version is None else f"?version={version}"), {**asked, "columns": names_of(columns)})
 
     def neighbours(self, vertex, direction="out", version=None):
         """All targets of a vertex, page by page; its sources by direction "in"."""
@@ -191,7 +191,8 @@ class Client:
 
     def watch(self, program, reduction="sum", argument=b"", columns=(), after=None):
         """Events without end: all rows, then what batches changed. It connects again after a lost connection, and goes on where it was."""
-        query = {"program": program, "reduction": reduction, "argument": digits_of(argument, "argument"), "columns": ",".join(columns)}
+        given = {"argument": digits_of(argument, "argument"), "columns": ",".join(names_of(columns))}
+        query = {"program": program, "reduction": reduction, **given}
         pause = FIRST_PAUSE
         while True:
             try:
@@ -292,6 +293,13 @@ def named(program):
 
 def quoted(name):
     return urllib.parse.quote(str(name), safe="")
+
+
+def names_of(columns):
+    """The names of columns. One name by itself would be taken for those of its letters."""
+    if isinstance(columns, str):
+        raise TypeError("columns are a list of names, not a str")
+    return list(columns)
 
 
 def whole(number, name):

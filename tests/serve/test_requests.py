@@ -483,6 +483,14 @@ class Clients(unittest.TestCase):
                 with self.assertRaises(ValueError):
                     self.client.batch([edit])
 
+    def test_one_name_of_a_column(self):
+        """A name by itself is refused, and not taken for the names that its letters are."""
+        with self.patched("json"), self.patched("_events", return_value=iter([])):
+            for call in (
+                    lambda: self.client.run("target", columns="risk"), lambda: self.client.numbers("target", [0], columns="risk"),
+                    lambda: self.client.pairs("target", [], columns="risk"), lambda: next(self.client.watch("target", columns="risk"))):
+                self.assertRaisesRegex(TypeError, "columns are a list of names", call)
+
     def test_pages_are_of_one_version(self):
         pages = [{"neighbours": [1, 5], "version": 7, "next": 5}, {"neighbours": [8], "version": 7}]
         with self.patched("json", side_effect=pages) as asked:
