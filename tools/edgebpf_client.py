@@ -444,6 +444,8 @@ def vertices_of(words):
 
 def lines_of_numbers(count, has_marks=False):
     """The numbers of standard input's lines, each so many; an edit may begin with `-`."""
+    if sys.stdin is None:
+        raise ValueError("standard input is closed")
     found = []
     for number, line in enumerate(sys.stdin, 1):
         words = line.split()
@@ -527,7 +529,8 @@ COMMANDS = {
 }
 
 
-def main():
+def perform():
+    """Does what the words of the command line say. A fault ends the process with a line."""
     parser = argparse.ArgumentParser("edgebpf-client", description=HELP, formatter_class=argparse.RawDescriptionHelpFormatter)
     parser.add_argument("command", choices=COMMANDS)
     parser.add_argument("words", nargs="*")
@@ -548,6 +551,11 @@ def main():
         if isinstance(error, BrokenPipeError):
             os._exit(1)
         sys.exit(f"edgebpf-client: {error}")
+
+
+def main():
+    try:
+        perform()
     except KeyboardInterrupt:
         os._exit(130)
 

@@ -550,6 +550,17 @@ class Tokens(WithService):
                         self.assertIn(role, self.refused(403, call, mine).words)
         self.assertNotIn(secrets["read"].encode(), b"".join(path.read_bytes() for path in self.data.iterdir() if path.is_file()))
 
+    def test_a_token_that_cannot_be_printed(self):
+        """One line says so, and the token is gone again, since nobody has read it."""
+        with self.served():
+            pass
+        for redirected, words in (("> /dev/full", "No space left on device"), (">&-", "is closed"), ("| false", "Broken pipe")):
+            for unbuffered in ("", "1"):
+                command = f'{TOOLS / "edgebpf-serve"} token {self.data} --name one {redirected}'
+                run = subprocess.run(["sh", "-c", command], capture_output=True, text=True, env={**os.environ, "PYTHONUNBUFFERED": unbuffered})
+                self.assertRegex(run.stderr, rf"\Aedgebpf-serve: standard output:? {words}\n\Z")
+                self.assertEqual(self.token(), "")
+
     def test_tokens_change_while_it_serves(self):
         with self.served() as client:
             client.batch([(0, 1)])

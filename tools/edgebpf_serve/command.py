@@ -184,7 +184,13 @@ def main_token(words):
                 stop(f"there is no token {given.drop}", 1)
         elif given.name is not None:
             limits = {name: getattr(given, name) for name in TOKEN_LIMITS if getattr(given, name) is not None}
-            print(change(given.folder, lambda db: add(db, given.name, roles, limits)))
+            secret = change(given.folder, lambda db: add(db, given.name, roles, limits))
+            try:
+                print(secret, flush=True)
+            except BaseException:
+                # Nobody has read it, so it opens nothing.
+                change(given.folder, lambda db: drop(db, given.name))
+                raise
         else:
             for token in change(given.folder, read).values():
                 print(token.name, ",".join(sorted(token.roles)), *(f"{name}={most}" for name, most in token.limits.items() if most is not None))

@@ -74,14 +74,16 @@ def run(program, perform, failed=FAILED):
     end is one line on standard error and the status `failed`, or 128 plus the number of a signal."""
     try:
         handle(Signals.take)
-        status = _performed(program, perform, failed)
+        status = performed(program, perform, failed)
     except KeyboardInterrupt as interrupt:
         number = getattr(interrupt, "number", signal.SIGINT)
         status = _told(program, SIGNALS[number], SIGNALLED + number)
     sys.exit(status)
 
 
-def _performed(program, perform, failed):
+def performed(program, perform, failed=FAILED):
+    """Does what the words of the command line say, and returns the status. Signals are the caller's. A fault is one line on standard error
+    and the status `failed`, also if standard output could not be written or is closed."""
     try:
         _open_standard_files()
         try:

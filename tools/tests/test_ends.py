@@ -16,7 +16,7 @@ HAS_NUMPY = importlib.util.find_spec("numpy") is not None
 STORE = str(TOOLS / "tests" / "second_store.py")
 EDGES = "".join(f"{vertex} {vertex + 1}\n" for vertex in range(200_000))
 TARGET = "#include <edgebpf.h>\nu64 target(struct edge *edge, u64 length) { return edge->target; }\n"
-HELPS = ("edgebpf-c", "edgebpf-explain", "edgebpf-import", "edgebpf-shell", "edgebpf-spread")
+HELPS = ("edgebpf-c", "edgebpf-client", "edgebpf-explain", "edgebpf-import", "edgebpf-shell", "edgebpf-spread", *["edgebpf-serve"] * HAS_SERVICE)
 
 
 class Ends(unittest.TestCase):
@@ -78,7 +78,8 @@ class Ends(unittest.TestCase):
 
     def test_help_that_cannot_be_written(self):
         for name in HELPS:
-            self.ended(self.run_with(name, "--help", redirected="> /dev/full"), name, "standard output", 2 if "explain" in name else 1)
+            for redirected in ("> /dev/full", ">&-"):
+                self.ended(self.run_with(name, "--help", redirected=redirected), name, "standard output", 2 if "explain" in name else 1)
 
     def test_standard_error_that_is_closed(self):
         """What would go there does not go to standard output."""
@@ -93,6 +94,7 @@ class Ends(unittest.TestCase):
         run = self.run_with("edgebpf-import", "--quiet", "--table", f"{self.folder}/none/table", str(self.folder / "far"))
         self.ended(run, "edgebpf-import", "none/table: No such file or directory")
         self.ended(self.run_with("edgebpf-explain", "16", redirected="<&-"), "edgebpf-explain", "standard input is closed", 2)
+        self.ended(self.run_with("edgebpf-client", "batch", redirected="<&-"), "edgebpf-client", "standard input is closed")
         self.environment["EDGEBPF"] = "/nowhere/edgebpf"
         self.ended(self.run_with("edgebpf-shell", redirected="< /dev/null"), "edgebpf-shell", "/nowhere/edgebpf: No such file")
 
