@@ -422,6 +422,19 @@ class Batches(WithEngine):
 
 
 @unittest.skipIf(MISSING, f"not there: {MISSING}")
+class Counted(WithEngine):
+    def test_a_group_is_counted_before_its_answers(self):
+        """Whoever has the answer of a batch finds its group in the metrics, however busy the machine is."""
+        import numpy as np
+        engine, found = self.begun(), []
+        engine.submit("a", np.array([(0, 1)], "<u4"), lambda _: found.append(engine.meter.text().decode()))
+        engine._write(engine.queue.take(0))
+        engine.disk.close()
+        for name in ("group_batches", "sync_seconds", "apply_seconds"):
+            self.assertIn(f"edgebpf_{name}_count 1.0", found[0])
+
+
+@unittest.skipIf(MISSING, f"not there: {MISSING}")
 class Shown(WithEngine):
     """What readers may look back on."""
 

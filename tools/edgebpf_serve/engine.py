@@ -254,10 +254,11 @@ class Engine:
         synced = time.perf_counter()
         counts = self._apply(news)
         self._finish(tasks)
+        # Whoever has the answer finds its group counted.
+        self.meter.group(len(news), synced - begun, time.perf_counter() - synced)
         for batch, (seq, digest, *earlier), is_new in told:
             is_same = digest == batch.digest
             batch.done(Outcome(seq, *(earlier or counts[seq]), is_new) if is_same else OtherBatch(f"another batch had the id {batch.key}"))
-        self.meter.group(len(news), synced - begun, time.perf_counter() - synced)
 
     def _sorted_out(self, group):
         """The new batches of a group as (seq, batch); each of its batches with what is known of the one with its id, as in `ids`, and whether it
