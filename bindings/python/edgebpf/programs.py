@@ -225,7 +225,7 @@ def argument_of(program: Program, argument: bytes, columns: int = 0) -> bytes:
     if wanted < 0:
         raise ArgumentLength(f"a record of {program.record} bytes has no room for {columns} columns, each of {COLUMN_BYTES} bytes")
     if len(given) != wanted:
-        beside = f" beside {columns} columns" if columns else ""
+        beside = f" beside {columns} columns" if columns else " if no column is lent" if wanted >= COLUMN_BYTES else ""
         raise ArgumentLength(f"the argument has {wanted} bytes{beside}, not {len(given)}")
     return given
 

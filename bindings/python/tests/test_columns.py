@@ -151,6 +151,9 @@ class Columns(unittest.TestCase):
     def test_wrong_arguments(self):
         with self.assertRaisesRegex(edgebpf.ArgumentLength, "the argument has 0 bytes beside 1 columns, not 8"):
             self.version.run(self.target, argument=bytes(8), columns=[self.x])
+        # A column that was forgotten looks like an argument that is missing.
+        with self.assertRaisesRegex(edgebpf.ArgumentLength, "^the argument has 16 bytes if no column is lent, not 0$"):
+            self.version.run(self.target)
         with self.assertRaisesRegex(edgebpf.ArgumentLength, "a record of 32 bytes has no room for 2 columns"):
             self.version.run(self.target, columns=[self.x, self.x])
         # Without a column the bytes are the argument's.
