@@ -448,9 +448,10 @@ def weights_of(weights: npt.ArrayLike, count: int, name: str) -> Floats:
     if len(array) != count:
         raise ValueError(f"{name} has {len(array)} numbers, and the graph {count} vertices")
     numbers = array.astype(F64)
-    total = float(numbers.sum())
+    with np.errstate(over="ignore"):
+        total = float(numbers.sum())
     if not (np.isfinite(total) and numbers.min() >= 0 and total > 0):
-        raise ValueError(f"{name} has numbers of which none is negative, and not all are 0")
+        raise ValueError(f"{name} has numbers of which none is negative, not all are 0, and the sum is finite")
     shares: Floats = numbers / total
     return shares
 

@@ -265,6 +265,7 @@ class Refused(WithStores):
             (ValueError, "start", lambda: algorithms.pagerank(version, start=[0] * 8)),
             (ValueError, "start", lambda: algorithms.pagerank(version, start=[2] * 7 + [-1])),
             (ValueError, "start", lambda: algorithms.pagerank(version, start=[1] * 7 + [float("nan")])),
+            (ValueError, "the sum is finite", lambda: algorithms.pagerank(version, start=[1e308] * 8)),
             (TypeError, "start", lambda: algorithms.pagerank(version, start=["a"] * 8)),
             (ValueError, "first", lambda: algorithms.pagerank(version, first=[1] * 9)),
             (ValueError, "rounds", lambda: algorithms.pagerank_fixed(version, -1)),
