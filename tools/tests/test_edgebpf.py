@@ -107,6 +107,8 @@ class Proving(Checkout):
     def test_first_and_later_runs(self):
         first = self.serve()
         self.assertEqual((first.stdout, first.returncode), ("text\n", 0), first.stderr)
+        why = "edgebpf: the sources are not those that dist/ was made from, so tools/prove proves and builds them now\n"
+        self.assertTrue(first.stderr.startswith(why), first.stderr)
         self.assertIn("tools/prove: crate 1 of 4, low, is proved, after 0:0", first.stderr)
         self.assertIn("crate 4 of 4, edgebpf, is proved", first.stderr)
         self.assertNotIn("unused", first.stderr)
