@@ -334,6 +334,24 @@ class Watch(WithService):
                 next(stream)
             self.assertIn("risk", caught.exception.words)
 
+    def test_a_query_whose_program_goes(self):
+        """Its subscribers are told, also if another program has the name by then."""
+        with self.served() as client:
+            client.batch([(0, 1)])
+            client.program("target", KINDS["target"].text)
+            stream = Client(client.url, tries=1).watch("target")
+            self.assertEqual(next(stream).rows, [(0, 1)])
+            client.drop_program("target")
+            client.program("target", KINDS["place"].text)
+            # Without an event of its own the stream would go on by the next batch.
+            begun, later = time.monotonic(), threading.Timer(10, client.batch, [[(0, 2)]])
+            later.start()
+            with self.assertRaises(Error) as caught:
+                next(stream)
+            later.cancel()
+            self.assertEqual((caught.exception.error, "target" in caught.exception.words), ("Missing", True))
+            self.assertLess(time.monotonic() - begun, 9)
+
 
 class WrongForms(WithService):
     def test_each_is_refused_and_changes_nothing(self):

@@ -93,7 +93,7 @@ class Service:
         return self.engine.latest.seq - min(told) if told else 0
 
     def published(self):
-        """Wakes all who wait for a version or a column."""
+        """Wakes all who wait for a version or a column, or for the end of a column or a program."""
         wake, self.wake = self.wake, asyncio.Event()
         wake.set()
 

@@ -12,6 +12,7 @@ from aiohttp import web
 from edgebpf_serve import asked as ask
 from edgebpf_serve.graph import Moment, lists_of
 from edgebpf_serve.limits import HEARTBEAT_SECONDS, KEPT_EVENTS, LOOK_SECONDS, PIECE, REST
+from edgebpf_serve.named import Missing
 from edgebpf_serve.rows import sum_of
 from edgebpf_serve.runs import Gone, has_gone
 
@@ -53,7 +54,9 @@ class Standing:
         self.rested = 0.0
 
     def now(self, moment=None):
-        """The point of a version, or of the last one, with the columns as they are."""
+        """The point of a version, or of the last one, with the columns as they are. Raises `Missing` if a column or the program was dropped."""
+        if self.service.programs.get(self.query.program).source != self.kept.source:
+            raise Missing(f"the program {self.query.program} was dropped, and another has its name")
         moment, columns = moment or self.service.engine.latest, tuple(self.service.columns.get(name) for name in self.query.columns)
         asked = *self.kept.source, self.query.reduction, self.query.argument, *(column.seq for column in columns)
         return Point(moment, columns, f"{moment.seq}-{sum_of(*asked):08x}")

@@ -29,6 +29,7 @@ async def keep_program(service, request, token):
 async def drop_program(service, request, token):
     name = ask.name_of(request.match_info["name"], "the name")
     await service.written(lambda done: service.engine.do(service.programs.drop(name, done)))
+    service.published()
     return answer({"name": name})
 
 
