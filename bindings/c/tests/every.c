@@ -169,6 +169,9 @@ static void refuses_batches(void) {
     CHECK(edgebpf_store_apply(&store, 0, many, 0, many, 0, marks, 0, &change) == EDGEBPF_LOG_FULL);
     CHECK(edgebpf_store_pin(&store, &now) == EDGEBPF_DONE && edgebpf_version_info(&now, &info) == EDGEBPF_DONE);
     CHECK(info.number == EDGEBPF_MOST_BATCHES && info.edges == 5);
+    edgebpf_store branch = {{0}}; /* of a full log, too */
+    CHECK(edgebpf_store_of(&now, &branch) == EDGEBPF_DONE);
+    edgebpf_close_store(&branch);
     edgebpf_close_version(&now);
 }
 

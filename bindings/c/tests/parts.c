@@ -115,6 +115,25 @@ static void runs_the_least_of_few(void) {
     CHECK(goes_on(outside, 0, EDGEBPF_MAX, 0, &at, values) == EDGEBPF_DONE && stands(&at, 0, 0, 0, 0));
 }
 
+/* A vertex without an edge costs 16: a budget of so much passes one, and one of 17 two. */
+static void passes_vertices_by_the_budget(void) {
+    enum { ALONE = 100 };
+    static const struct { uint64_t budget; uint32_t vertex; } rows[] = {{0, 1}, {1, 2}, {16, 3}, {17, 5}, {32, 7}, {33, 10}};
+    uint32_t frontier[ALONE];
+    uint64_t values[ALONE];
+    edgebpf_store empty = {{0}};
+    edgebpf_version none = {{0}};
+    edgebpf_progress at = {0};
+    for (uint32_t vertex = 0; vertex < ALONE; vertex++) frontier[vertex] = vertex;
+    CHECK(edgebpf_store_new(ALONE, &empty) == EDGEBPF_DONE && edgebpf_store_pin(&empty, &none) == EDGEBPF_DONE);
+    for (size_t row = 0; row < COUNT(rows); row++) {
+        at.budget = rows[row].budget;
+        CHECK(edgebpf_run_some(&none, &targets_of, EDGEBPF_NO_BYTES, 0, frontier, ALONE, EDGEBPF_SUM, &at, values, ALONE) == EDGEBPF_DONE);
+        CHECK(at.budget == 0 && at.vertex == rows[row].vertex && at.place == 0 && at.edges == 0);
+    }
+    edgebpf_close_version(&none), edgebpf_close_store(&empty);
+}
+
 static uint32_t goes_over(uint32_t first, size_t count, uint32_t reduction, uint64_t budget, edgebpf_progress *at, uint64_t *values) {
     at->budget = budget;
     return edgebpf_pull_range(&graph, &targets_of, EDGEBPF_NO_BYTES, 0, &no_column, 0, first, reduction, at, values, count);
@@ -202,6 +221,11 @@ static void numbers_a_frontier(void) {
         CHECK(written <= 1 && (all_written += written) <= 6);
     }
     CHECK(all_written == 6 && !memcmp(numbers, wanted, sizeof wanted));
+    /* 6 for an edge, and 16 for a vertex: what is used up by vertex 2 begins no edge of vertex 0. */
+    at = (edgebpf_progress){18, 0, 0, 0, 0};
+    CHECK(numbers_on(frontier, 4, &at, numbers, 6, &written) == EDGEBPF_DONE && written == 3 && stands(&at, 1, 0, 3, 0) && at.budget == 0);
+    at = (edgebpf_progress){19, 0, 0, 0, 0};
+    CHECK(numbers_on(frontier, 4, &at, numbers, 6, &written) == EDGEBPF_DONE && written == 3 && stands(&at, 1, 0, 3, 0) && at.budget == 0);
     const uint32_t none_first[] = {7, 0};
     at = (edgebpf_progress){UINT64_MAX, 0, 0, 0, 0};
     CHECK(numbers_on(none_first, 2, &at, numbers, 0, &written) == EDGEBPF_DONE);
@@ -237,6 +261,12 @@ static void numbers_pairs(void) {
     }
     CHECK(edgebpf_pairs(&graph, &ends, EDGEBPF_NO_BYTES, 0, sources, PAIRS, targets, PAIRS, &at, numbers, PAIRS) == EDGEBPF_DONE);
     CHECK(stands(&at, PAIRS, 0, PAIRS, 0)); /* the end stays the end */
+    at = (edgebpf_progress){0};
+    for (uint32_t done = 1; done <= PAIRS; done++) { /* a pair costs 6: a budget of so much does one */
+        at.budget = 6;
+        CHECK(edgebpf_pairs(&graph, &ends, EDGEBPF_NO_BYTES, 0, sources, PAIRS, targets, PAIRS, &at, numbers, PAIRS) == 0);
+        CHECK(at.budget == 0 && stands(&at, done, 0, done, 0));
+    }
     edgebpf_close_program(&ends);
     edgebpf_close_program(&shape);
 }
@@ -344,7 +374,8 @@ static void pauses_a_hostile_program(void) {
     }
     at.budget = 3 * an_edge;
     CHECK(edgebpf_run_some(&graph, &hostile, EDGEBPF_NO_BYTES, 0, all, VERTICES, EDGEBPF_SUM, &at, values, VERTICES) == EDGEBPF_DONE);
-    CHECK(at.budget == 0 && at.edges >= 7 && at.edges < 12 && at.total == 7 * at.edges);
+    /* Three edges of vertex 2 cost just that, so none of vertex 3 is begun. */
+    CHECK(at.budget == 0 && stands(&at, 3, 0, 7, 49));
     /* Whoever calls no more has cancelled it. It may also be kept, and go on later: all that is left costs no more than its edges and vertices. */
     kept = at;
     kept.budget = 12 * an_edge;
@@ -358,6 +389,7 @@ int main(void) {
     builds_the_graph();
     runs_edge_by_edge();
     runs_by_the_budget();
+    passes_vertices_by_the_budget();
     runs_as_a_whole();
     runs_the_least_of_few();
     runs_over_a_range();

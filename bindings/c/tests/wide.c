@@ -87,6 +87,9 @@ static void greatest_graph(void) {
     CHECK(edgebpf_program_new(16, target_code, sizeof target_code, EDGEBPF_NO_BYTES, 0, &verdict, &program) == EDGEBPF_DONE);
     CHECK(edgebpf_run(&pin, &program, EDGEBPF_NO_BYTES, 0, &greatest, 1, EDGEBPF_SUM, &value, 1, &totals) == EDGEBPF_DONE);
     CHECK(value == greatest && totals.edges == 1 && totals.total == greatest);
+    edgebpf_store branch = {{0}};
+    CHECK(edgebpf_store_of(&pin, &branch) == EDGEBPF_DONE);
+    edgebpf_close_store(&branch);
     edgebpf_close_program(&program);
     edgebpf_close_version(&pin), edgebpf_close_store(&store);
 }
