@@ -189,26 +189,28 @@ class Client:
     def status(self):
         return self.json("GET", "/healthz")
 
-    def watch(self, program, reduction="sum", argument=b"", columns=(), after=None):
-        """Events without end: all rows, then what batches changed. It connects again after a lost connection, and goes on where it was."""
+    def watch(self, program, reduction="sum", argument=b"", columns=(), after=None, waits=None):
+        """Events without end: all rows, then what batches changed. It connects again after a lost connection, and goes on where it was. Only a
+        first connection is tried no more than `tries` times. waits: is called with the error of the first try of each time without a service."""
         given = {"argument": digits_of(argument, "argument"), "columns": ",".join(names_of(columns))}
         query = {"program": program, "reduction": reduction, **given}
-        pause = FIRST_PAUSE
+        reach, pause = Reach(self.tries, waits), FIRST_PAUSE
         while True:
             try:
-                for event in self._events(f"/watch?{urllib.parse.urlencode(query)}", after):
+                for event in self._events(f"/watch?{urllib.parse.urlencode(query)}", after, reach.begins):
                     after, pause = event.id, FIRST_PAUSE
                     yield event
-            except (OSError, http.client.HTTPException):
-                pass
+            except (OSError, http.client.HTTPException) as error:
+                reach.fails(no_answer(error))
             except Error as error:
                 if error.status not in LATER:
                     raise
+                reach.fails(error)
             time.sleep(pause * random.uniform(0.5, 1.0))
             pause = min(2 * pause, MOST_PAUSE)
 
-    def _events(self, path, after):
-        """The events of one connection."""
+    def _events(self, path, after, begins=lambda: None):
+        """The events of one connection. `begins` is called once the service has answered that they come."""
         connection = self._connection()
         try:
             heads = self._heads(None, {"Accept": "text/event-stream", **({"Last-Event-ID": after} if after else {})})
@@ -216,6 +218,7 @@ class Client:
             answer = connection.getresponse()
             if answer.status != 200:
                 raise Error(answer.status, told_by(answer.read()))
+            begins()
             yield from events_of(answer)
         finally:
             connection.close()
@@ -252,7 +255,7 @@ class Client:
         except (OSError, http.client.HTTPException) as error:
             connection.close()
             self.own.connection = None
-            raise NoAnswer(f"{type(error).__name__}: {error}") from None
+            raise no_answer(error) from None
         if answer.status >= 300:
             raise Error(answer.status, told_by(content))
         return answer.headers, content
@@ -279,6 +282,30 @@ class Client:
 
     def __exit__(self, *_):
         self.close()
+
+
+class Reach:
+    """How long a watch waits for its service: `tries` times if it was never there, and else without end. `waits` is called once each time."""
+
+    def __init__(self, tries, waits):
+        self.left, self.waits, self.is_away = tries, waits, False
+
+    def begins(self):
+        self.left, self.is_away = None, False
+
+    def fails(self, error):
+        if self.left is not None:
+            self.left -= 1
+            if self.left <= 0:
+                raise error from None
+        if self.waits is not None and not self.is_away:
+            self.waits(error)
+        self.is_away = True
+
+
+def no_answer(error):
+    """What a request raises for an error of its connection."""
+    return NoAnswer(f"{type(error).__name__}: {error}")
 
 
 def brought(text=None, code=None, record=16, table=b""):
@@ -507,8 +534,13 @@ def command_column(client, given):
     client.column(given.words[0], [number for number, in lines_of_numbers(1)])
 
 
+def say_waiting(error):
+    if sys.stderr is not None:
+        print(f"edgebpf-client: waits for the service: {error}", file=sys.stderr, flush=True)
+
+
 def command_watch(client, given):
-    for event in client.watch(given.words[0], given.reduction, **asked_of(given)):
+    for event in client.watch(given.words[0], given.reduction, **asked_of(given), waits=say_waiting):
         for vertex, value in event.rows:
             print(event.version, vertex, value, flush=True)
 

@@ -14,7 +14,7 @@ import sys
 HERE = pathlib.Path(__file__).resolve().parent
 sys.path.insert(0, str(HERE.parent.parent / "tools"))
 
-from edgebpf_client import Client, Error  # noqa: E402
+from edgebpf_client import Client, Error, NoAnswer  # noqa: E402
 
 RISK_OF_PAYEE, RECORD = "ldxdw r0, [r1+24]\nexit", 32
 
@@ -45,7 +45,7 @@ def main():
 if __name__ == "__main__":
     try:
         main()
-    except (Error, OSError) as error:
+    except (Error, NoAnswer, OSError) as error:
         sys.exit(f"watch_accounts: {error}")
     except KeyboardInterrupt:
         sys.exit(130)

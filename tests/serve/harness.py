@@ -14,7 +14,7 @@ TOP = HERE.parent.parent
 TOOLS = TOP / "tools"
 sys.path.insert(0, str(TOOLS))
 
-from edgebpf_client import Client, Error, NoAnswer, brought  # noqa: E402, F401
+from edgebpf_client import Client, Error, NoAnswer, brought, events_of  # noqa: E402, F401
 
 PYTHON = "/usr/bin/python3"
 ALL_ROLES = "read,write,program,admin"

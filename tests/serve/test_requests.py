@@ -19,7 +19,7 @@ import unittest.mock
 HERE = pathlib.Path(__file__).resolve().parent
 sys.path.insert(0, str(HERE))
 
-from harness import TOOLS, Client, Error, Forks, NoAnswer, folder, missing, served  # noqa: E402
+from harness import TOOLS, Client, Error, Forks, NoAnswer, events_of, folder, missing, served  # noqa: E402
 from model import KINDS, Graph, random_edits, seeded, table_of  # noqa: E402
 from wrong_forms import PAST_LIMITS, VERTICES, WRONG_FORMS, write_limits  # noqa: E402
 
@@ -27,6 +27,7 @@ MISSING = missing()
 # A program that takes some 0.4 ms an edge, and one that takes as long as it may.
 SLOW = "mov r0, 0\n" + "add r0, 1\n" * 4000 + "exit"
 ENDLESS = "\n".join(["mov r6, 0", *["mov r1, 7\nmov r2, 0\nmov r3, r10\nadd r3, -256\nmov r4, 256\ncall 5"] * 600, "exit"])
+FIRST_EVENT = b'id: 1-00000000\nevent: rows\ndata: {"version":1,"rows":[[0,1]]}\n\n'
 
 
 class WithService(unittest.TestCase):
@@ -525,7 +526,7 @@ class Clients(unittest.TestCase):
 
     def test_a_watch_goes_on_where_it_was(self):
         """After a lost connection it asks for what came after the last event, by a new connection, and the old one is closed."""
-        events = [b'id: 1-00000000\nevent: rows\ndata: {"version":1,"rows":[[0,1]]}\n\n', b'id: 4-00000000\nevent: changes\ndata: {"from":1,"version":4,"rows":[]}\n\n']
+        events = [FIRST_EVENT, b'id: 4-00000000\nevent: changes\ndata: {"from":1,"version":4,"rows":[]}\n\n']
         connections = []
         for data in events:
             connection = unittest.mock.Mock()
@@ -540,6 +541,48 @@ class Clients(unittest.TestCase):
             connections[1].close.assert_called_once()
         asked = [connection.request.call_args.kwargs["headers"].get("Last-Event-ID") for connection in connections]
         self.assertEqual(asked, [None, "1-00000000"])
+
+    def test_a_watch_of_a_service_that_never_was(self):
+        """It is tried as often as any request, and ends with the same error."""
+        self.client.tries, told = 3, []
+        with unittest.mock.patch("time.sleep") as slept:
+            with self.assertRaises(NoAnswer) as asked:
+                self.client.status()
+            for _ in range(2):
+                with self.assertRaises(NoAnswer) as watched:
+                    next(self.client.watch("target", waits=told.append))
+                self.assertEqual(str(watched.exception), str(asked.exception))
+        self.assertEqual((slept.call_count, [str(one) for one in told]), (2 + 4, [str(asked.exception)] * 2))
+        for status, name in ((503, "Busy"), (429, "TooFast"), (422, "Unfit")):
+            with self.patched("_events", side_effect=Error(status, {"error": name})) as tried, unittest.mock.patch("time.sleep"):
+                self.assertRaises(Error, next, self.client.watch("target"))
+            self.assertEqual(tried.call_count, 1 if status == 422 else 3)
+
+    def test_a_watch_waits_once_it_was_connected(self):
+        """However often the service is away, and each time it says so once."""
+        told, answers = [], [b"", *[None] * 5, b"", None, 503, b"", None, FIRST_EVENT]
+
+        def events(path, after, begins):
+            answer = answers.pop(0)
+            if answer == 503:
+                raise Error(503, {"error": "Busy"})
+            if answer is None:
+                raise ConnectionRefusedError(111, "refused")
+            begins()
+            yield from events_of(answer.splitlines(keepends=True))
+
+        with self.patched("_events", side_effect=events), unittest.mock.patch("time.sleep"):
+            self.assertEqual(next(self.client.watch("target", waits=told.append)).version, 1)
+        self.assertEqual([str(one) for one in told], ["ConnectionRefusedError: [Errno 111] refused"] * 3)
+
+    def test_the_command_says_that_it_waits(self):
+        """With short pauses, since it gives up after some seconds."""
+        words = "import edgebpf_client as c; c.MOST_PAUSE = 0.01; c.main()"
+        command = [sys.executable, "-c", words, "--url", "http://127.0.0.1:1", "watch", "target"]
+        run = subprocess.run(command, capture_output=True, text=True, timeout=30, env={**os.environ, "PYTHONPATH": str(TOOLS)})
+        told = "ConnectionRefusedError: [Errno 111] Connection refused"
+        self.assertEqual((run.returncode, run.stdout), (1, ""))
+        self.assertEqual(run.stderr.splitlines(), [f"edgebpf-client: waits for the service: {told}", f"edgebpf-client: {told}"])
 
 
 class Tokens(WithService):
