@@ -19,7 +19,7 @@ import unittest.mock
 HERE = pathlib.Path(__file__).resolve().parent
 sys.path.insert(0, str(HERE))
 
-from harness import TOOLS, Client, Error, Forks, NoAnswer, events_of, folder, missing, served  # noqa: E402
+from harness import TOOLS, Client, Error, Forks, NoAnswer, events_of, folder, missing, served, token_command  # noqa: E402
 from model import KINDS, Graph, random_edits, seeded, table_of  # noqa: E402
 from wrong_forms import PAST_LIMITS, VERTICES, WRONG_FORMS, write_limits  # noqa: E402
 
@@ -405,6 +405,26 @@ class Limits(WithService):
             self.assertLess(time.monotonic() - begun, 5)
         with self.served(units=10**6) as client:
             self.assertIn("units", self.refused(503, client.run, "endless", frontier=list(range(VERTICES)) * 200).words)
+
+    def test_who_is_asked_to_come_again(self):
+        """Not who sent a run that took too long: clients that heed Retry-After would have it made again and again."""
+        with self.served(units=10**6) as client:
+            client.batch([(u, v) for u in range(VERTICES) for v in range(VERTICES)])
+            client.program("endless", ENDLESS)
+            run = "/runs", {"program": "endless", "reduction": "sum", "frontier": list(range(VERTICES)) * 200}
+            self.assertEqual(self.told(client, *run), (503, "TookTooLong", None))
+        secret = token_command(self.data, "--name", "one", "--roles", "write", "--batches", "1")
+        with self.served() as client:
+            mine = Client(client.url, token=secret)
+            told = {self.told(mine, "/batches", {"edits": [[0, 1]]}, {"Idempotency-Key": str(number)}) for number in range(3)}
+            self.assertEqual(told, {(200, None, None), (429, "TooFast", "1")})
+
+    def told(self, client, path, body, heads={}):
+        """What a request is answered: the status, the error, and when it may come again."""
+        with contextlib.closing(client._connection()) as connection:
+            connection.request("POST", path, json.dumps(body), client._heads(body, heads))
+            answer = connection.getresponse()
+            return answer.status, json.loads(answer.read()).get("error"), answer.headers["Retry-After"]
 
     def test_too_many_numbers(self):
         with self.served() as client:

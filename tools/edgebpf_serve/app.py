@@ -40,7 +40,8 @@ LINGER_SECONDS = 1.0
 
 
 def error_answer(name, words, status, **more):
-    heads = ASK_AGAIN if status in (429, 503, 507) else {}
+    # A run that took too long would take as long again.
+    heads = ASK_AGAIN if status in (429, 503, 507) and name != TookTooLong.__name__ else {}
     if status == 401:
         heads = {"WWW-Authenticate": "Bearer"}
     return answer({"error": name, **more, "words": words[:MOST_WORDS]}, status, heads)

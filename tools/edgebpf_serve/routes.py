@@ -22,7 +22,7 @@ STATUSES = {
     403: "this token may not do that, or the page is of another site", 404: "nothing has this name", 408: "the body came too slowly",
     409: "another program or backup has this name", 410: "this version is not kept, or the journal does not go back so far",
     413: "the body is too large", 415: "the body has another type than this request wants", 422: "the request cannot be done: the answer says why",
-    429: "this token has as much under way as it may", 503: "not now: ask again", 507: "the disk is full",
+    429: "this token has as much under way as it may", 503: "not now: ask again; or a run took too long, and has no Retry-After", 507: "the disk is full",
 }
 
 
