@@ -147,6 +147,8 @@ class EdgeFile:
         # The library also takes -0 for a number, and these two bytes for blanks.
         if any(sign in block for sign in b"#%+\x85\xa0") or re.search(rb"-0+(?![0-9.eE])", block):
             return None
+        if self.separator and b'"' in block:
+            return None
         has_more = len(block.strip().split(b"\n", 1)[0].split(self.separator and b",")) > 2
         with warnings.catch_warnings():
             warnings.simplefilter("error")
@@ -206,7 +208,18 @@ class EdgeFile:
         """What may be meant where no edge was read yet."""
         return "; --skip 1 leaves out a header, and --names takes words as ids" if not self.count else "; --names takes words as ids"
 
+    def _look_at_marks(self, words, mark, has_commas):
+        """Refuses what CSV would read in another way: an id in quotation marks, in which a comma may stand, and a later column in them that
+        does not end on its line."""
+        if any(word.startswith(mark) for word in words[:2]):
+            raise self.fault(self.line, "an id begins with a quotation mark. Fields of CSV in quotation marks are not read: "
+                             "write ids without the marks, and names without commas")
+        more = words[2:]
+        if has_commas and any(word.startswith(mark) for word in more) and sum(word.count(mark) for word in more) % 2:
+            raise self.fault(self.line, "a field in quotation marks does not end on its line")
+
     def _ids_of(self, words):
+        self._look_at_marks(words, '"', self.separator is not None)
         if len(words) < 2:
             raise self.fault(self.line, "an edge is two ids, and here is one word")
         if len(words) > 2:

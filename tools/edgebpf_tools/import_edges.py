@@ -18,7 +18,7 @@ def arguments(words):
         prog="edgebpf-import",
         description="Turns a list of edges (SNAP, or columns separated by blanks, tabs or commas) or a Matrix Market file into a "
         f"script: the graph, and its edges in batches of {MOST_EDITS:,}, sorted by source. The script goes to standard output.",
-        epilog="Lines that begin with # or % are comments. A file that is compressed by gzip is read as what is in it. Columns after the "
+        epilog="Lines that begin with # or % are comments. Ids in quotation marks, as CSV has them, are refused. A file that is compressed by gzip is read as what is in it. Columns after the "
         f"second are not read, and a warning on standard error says so. Ids stay if all are below {SERVED_VERTICES:,}; else they are renumbered in "
         "ascending order, and FILE.ids maps them back. What a gigabyte of memory does not hold is sorted in a file, in the folder that TMPDIR "
         "names, else in /var/tmp. Needs numpy: apt-get install python3-numpy",

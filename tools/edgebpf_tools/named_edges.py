@@ -32,7 +32,10 @@ class NamedEdgeFile(EdgeFile):
             self.line += 1
             if line.strip() and line.strip()[:1] not in (b"#", b"%"):
                 # With a comma in it a line has its columns between commas, and its names may have blanks.
-                self._take_edge([word.strip() for word in line.split(b"," if b"," in line else None)])
+                words = [word.strip() for word in line.split(b"," if b"," in line else None)]
+                if b'"' in line:
+                    self._look_at_marks(words, b'"', b"," in line)
+                self._take_edge(words)
         self._keep(*(self.numpy.array(ends, dtype=self.numpy.int64) for ends in self.ends))
         for ends in self.ends:
             del ends[:]

@@ -89,6 +89,25 @@ class EdgebpfImport(unittest.TestCase):
         self.refused("0 1\n0, 2\n", "line 2: `0,` is no id")
         self.refused("0,5 1,5\n", "line 1: `5 1` is no id")
 
+    def test_fields_in_quotation_marks(self):
+        """A comma or a line's end within one is no end of a column. So the line is refused, and no other name is read."""
+        begins, ends = "line {}: an id begins with a quotation mark. Fields of CSV", "line {}: a field in quotation marks does not end on its line"
+        with tempfile.TemporaryDirectory() as folder:
+            table = pathlib.Path(folder, "table")
+            for text, part, line in (
+                ('"Smith, John",acme\n', begins, 1), ('ann,bob\nacme,"Smith, John"\n', begins, 2), ('ann bob\n"ann" eve\n', begins, 2),
+                ('ann, "bob"\n', begins, 1), ('ann,bob,"x\ny,eve,z"\n', ends, 1), ('"ann"\n', begins, 1),
+            ):
+                self.refused(text, part.format(line), "--names", "--table", str(table))
+                self.refused(text, part.format(line), "--names", "--store")
+            self.assertFalse(table.exists())
+            inch = self.of_bytes(b'disk 5",acme,"x, y"\nann,acme\n', "--names", "--table", str(table))
+            self.assertEqual((inch[0], table.read_text()), (0, '# vertex, name in the file\n0 acme\n1 ann\n2 disk 5"\n'))
+        for text, part, line in (('"0","1"\n', begins, 1), ('0,1\n0,"2"\n', begins, 2), ('0,1,"x\n0,2,y"\n', ends, 1)):
+            self.refused(text, part.format(line))
+        for text in ('0,1,"x, y"\n0,2,5"\n1,2\n', '0 1 "x\n0 2\n1 2\n'):
+            self.assertEqual(self.made(text).stdout, FIRST)
+
     def test_rectangular_matrix(self):
         text = "%%MatrixMarket matrix coordinate pattern general\n2 3 2\n1 3\n2 1\n"
         self.refused(text, "line 2: the matrix has 2 rows and 3 columns. Say what columns are: --rectangular same")
