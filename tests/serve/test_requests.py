@@ -771,8 +771,8 @@ class Tokens(WithService):
 
 
 class Folders(WithService):
-    def tool(self, *words):
-        return subprocess.run([TOOLS / "edgebpf-serve", *words], capture_output=True, text=True)
+    def tool(self, *words, **environment):
+        return subprocess.run([TOOLS / "edgebpf-serve", *words], capture_output=True, text=True, timeout=60, env={**os.environ, **environment})
 
     def test_backup_and_restore(self):
         with self.served(snapshot_batches=5) as client:
@@ -876,6 +876,13 @@ class Folders(WithService):
         (self.data / "serve.db").write_bytes(b"no database" * 100)
         run = self.tool("check", self.data)
         self.assertEqual((run.returncode, len(run.stderr.splitlines())), (2, 1), run.stderr)
+
+    def test_variables_that_are_no_options(self):
+        near = "; there is EDGEBPF_SERVE_VERTICES"
+        for name, near in (("VERTICE", near), ("vertices", near), ("", ""), ("SERVICE_HOST", "")):
+            run = self.tool("--data", self.data, "--listen", "127.0.0.1:0", **{f"EDGEBPF_SERVE_{name}": "100"})
+            self.assertEqual((run.returncode, run.stdout, self.data.exists()), (2, "", False), run.stderr)
+            self.assertEqual(run.stderr.splitlines()[-1], f"edgebpf-serve: error: the environment variable EDGEBPF_SERVE_{name} names no option{near}")
 
     def test_another_format(self):
         with self.served():

@@ -3,6 +3,7 @@ import argparse
 import asyncio
 import contextlib
 import dataclasses
+import difflib
 import functools
 import json
 import logging
@@ -32,6 +33,8 @@ USAGE = """a graph over HTTP that keeps on disk what it acknowledged
   edgebpf-serve check DIR                             recover a folder that is not served, and say what it has"""
 VARIABLE = "EDGEBPF_SERVE_"
 MOST_LIMIT = 1_000_000_000
+# How near a name has to be to one that is misspelt, by difflib.
+NEAR = 0.8
 
 
 def log(what, **fields):
@@ -64,6 +67,7 @@ def parsed(words):
         else:
             parser.add_argument(name, metavar=kind_of(field).__name__.upper(), **how)
     given = vars(parser.parse_args(words))
+    check_variables(parser)
     options = Options()
     for field in dataclasses.fields(Options):
         text = given[field.name] if given[field.name] is not None else os.environ.get(VARIABLE + field.name.upper())
@@ -73,6 +77,16 @@ def parsed(words):
         parser.error("--data DIR is missing")
     check_address(parser, options)
     return options
+
+
+def check_variables(parser):
+    """Ends the start if a variable would be an option's and is none, since a misspelt one would be without effect."""
+    known = [field.name.upper() for field in dataclasses.fields(Options)]
+    for variable in sorted(os.environ):
+        name = variable.removeprefix(VARIABLE)
+        if variable.startswith(VARIABLE) and name not in known:
+            near = difflib.get_close_matches(name.upper(), known, 1, NEAR)
+            parser.error(f"the environment variable {variable} names no option" + (f"; there is {VARIABLE}{near[0]}" if near else ""))
 
 
 def kind_of(field):
