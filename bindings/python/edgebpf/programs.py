@@ -262,8 +262,10 @@ def tested_text(text: str | Sequence[str]) -> str:
     lines = lines_of(text)
     if any(line.strip() == "end" for line in lines):
         raise ValueError("a line `end` would end the program; a label of that name is written `end:`")
-    if not all(line.isascii() for line in lines):
-        raise ValueError("a program's text is ASCII")
+    for number, line in enumerate(lines, 1):
+        if not line.isascii():
+            letter = next(letter for letter in line if not letter.isascii())
+            raise ValueError(f"line {number}: a program's text is ASCII, also in comments, and {letter!a} is not")
     for number, line in enumerate(lines, 1):
         if any(map(STATEMENT.fullmatch, line.split(";")[1:])):
             raise WrongText(STATEMENT_IN_COMMENT, number)

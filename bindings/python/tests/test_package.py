@@ -444,6 +444,12 @@ class Package(unittest.TestCase):
             with self.assertRaises(ValueError):
                 edgebpf.assemble(TARGET, record)
 
+    def test_a_letter_that_is_not_ascii(self):
+        for text in ("mov r0, 1\nexit ; na\u00efve", ["mov r0, 1", "; \u00ef", "exit"], "mov r0, 1\r\nma\u00efs r0\nexit \u4e2d"):
+            for call in (edgebpf.assemble, edgebpf.explain):
+                with self.assertRaisesRegex(ValueError, r"^line 2: a program's text is ASCII, also in comments, and '\\xef' is not$"):
+                    call(text)
+
     def test_lines_of_a_text(self):
         """A line end separates and `;` begins a comment, as in a script; a statement that follows `;` is refused, and a remark is not."""
         texts = ("; the target\nldxw r0, [r1+4]   ; 4 bytes; exit r0 with it\nexit ; call of no helper", ["ldxw r0, [r1+4] ; and so on", "exit\n"])
