@@ -119,6 +119,13 @@ class Process:
                 self.close()
                 raise
 
+    def check(self) -> None:
+        """Raises `Closed` if the process has ended. It asks nothing of the process, and does not wait for what is under way there."""
+        if self.input.closed:
+            raise Closed("the store is closed")
+        if self.child.poll() is not None:
+            raise Closed(f"edgebpf has ended with status {self.child.returncode}")
+
     def answer(self, text: bytes, has_rows: bool) -> tuple[list[str], bytes]:
         try:
             # The answer to one question more says that the rows have ended.
@@ -229,7 +236,8 @@ class Store:
             return self._epoch
 
     def pin(self) -> Version:
-        """The last version. It stays as it is while batches come. A process keeps at most 256 versions (`TooManyNames`)."""
+        """The last version. It stays as it is while batches come. A process keeps at most 256 versions (`TooManyNames`). Raises `Closed`
+        also of a version that was pinned before, once the process has ended."""
         with self._turn:
             last = self._last
             if last is None or last[1:3] != (self._epoch, self._batches):
@@ -239,6 +247,8 @@ class Store:
                 name = f"v{next(self._names)}"
                 words, _ = self._process.ask(f"pin {name}\n".encode())
                 self._last = last = name, self._epoch, int(words[3]), int(words[5])
+            else:
+                self._process.check()
             return Version(self, *last)
 
     @contextlib.contextmanager

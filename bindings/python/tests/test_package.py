@@ -676,6 +676,18 @@ class Package(unittest.TestCase):
             with self.assertRaises(edgebpf.Closed):
                 ask()
 
+    def test_no_pin_of_a_process_that_has_ended(self):
+        """Also if the version that was pinned last would be the one."""
+        for end, words in ((lambda process: process.child.kill(), "^edgebpf has ended with status -9$"), (lambda process: process.close(), "^the store is closed$")):
+            store = self.store(4)
+            store.pin()
+            end(store._process)
+            while store._process.child.poll() is None:
+                pass
+            for _ in range(2):
+                with self.assertRaisesRegex(edgebpf.Closed, words):
+                    store.pin()
+
     def test_interrupted_at_a_terminal(self):
         """A Ctrl-C goes to the whole group of processes, and the store goes on nevertheless."""
         code = """
