@@ -25,6 +25,7 @@ from edgebpf.given import (
     values_into, vertex_count, vertex_of, vertices_of, whole,
 )
 from edgebpf.given import columns as ends_of
+from edgebpf.kept_here import KeptHere
 from edgebpf.limits import MOST_EDITS, MOST_VERTICES
 from edgebpf.own_source import asks_of
 from edgebpf.programs import Program, argument_of, handle_of
@@ -41,7 +42,7 @@ TOKENS = itertools.count(1)
 asks_about = functools.lru_cache(256)(asks_of)
 
 
-class Cluster:
+class Cluster(KeptHere):
     """A graph whose edges lie in parts, each in a worker of Dask. It may be used by several threads, and is a context manager.
 
     client: a `distributed.Client`, which stays the caller's. vertices: 1 to 268,435,456. parts: 1 to 64, as many as there are workers if it is
@@ -56,6 +57,7 @@ class Cluster:
     batches, and its versions are gone.
     """
 
+    _called, _instead = "a Cluster", ", and workers have its parts"
     _router: Router
 
     def __init__(
@@ -145,6 +147,9 @@ class Cluster:
         comes by itself, after 10,000 batches or 8,388,608 edits."""
         return self._router.call(self._router.checkpoint()).result()
 
+    def __repr__(self) -> str:
+        return f"<edgebpf.Cluster: {self.vertices} vertices, {self.parts} parts{', closed' if self._router.is_closed else ''}>"
+
     def close(self) -> None:
         """Drops the graph, with its versions. The workers and the folder stay. What other threads wait for raises `Closed`. May be called twice."""
         self._router.end()
@@ -163,9 +168,11 @@ class Effort(NamedTuple):
     threads: int
 
 
-class ClusterVersion:
+class ClusterVersion(KeptHere):
     """A version of a cluster's graph, by its number in all parts. `vertices` and `edges` are how large it is. Threads may use it at the same time.
     Parts keep it until it is closed, or dropped. A question waits for a part that begins again, and raises `PartLost` if no worker takes it."""
+
+    _called, _instead = "a version", "; csr() has its edges"
 
     def __init__(self, router: Router, number: int, edges: int) -> None:
         self.number, self.edges, self.vertices = number, edges, router.vertices

@@ -11,6 +11,7 @@ import numpy.typing as npt
 
 from edgebpf.errors import Closed, NoMemory
 from edgebpf.given import FEEDS, Edges, Pairs, edits_of, edits_of_batch, feed_of, whole
+from edgebpf.kept_here import KeptHere
 from edgebpf.limits import MOST_BATCHES
 from edgebpf.native import Store, Version
 from edgebpf.store import Counts
@@ -25,12 +26,14 @@ class Last(Version):
         """Does nothing: the version is dropped with the last that refers to it."""
 
 
-class Live:
+class Live(KeptHere):
     """A graph in this process of which threads read the last version, without waiting, while one at a time edits it. It is a context manager.
 
     vertices: 1 to 268,435,456. A rebase comes by itself after `batches` batches, 1 to 4,096, or after `edits` edits, so that the memory of what
     was edited stays small. It has no end: there is none to rebases.
     """
+
+    _called, _instead = "a Live", "; csr() of a version has its edges"
 
     def __init__(self, vertices: int, batches: int = REBASE_BATCHES, edits: int = REBASE_EDITS) -> None:
         self._begin(lambda: Store(vertices), batches, edits)
@@ -79,6 +82,10 @@ class Live:
     def numbered(self) -> tuple[int, Version]:
         """How many batches of this graph made the last version, and the version, whose own `number` counts those since a rebase."""
         return self._latest
+
+    def __repr__(self) -> str:
+        number, version = self._latest
+        return f"<edgebpf.Live {number}: {self.vertices} vertices, {version.edges} edges{', closed' if self._is_closed else ''}>"
 
     def close(self) -> None:
         """Drops the store; versions that are held stay. May be called twice."""

@@ -15,6 +15,7 @@ from edgebpf.given import (
     NO_COLUMNS, REDUCTIONS, Columns, Edges, Numbers, Pairs, Vertices, columns_of, edits_of, edits_of_batch, ends_of_pairs,
     feed_of, found_of, frozen, members_of, reduction_of, starts_of, threads_of, values_into, vertex_count, vertex_of, vertices_of, whole,
 )
+from edgebpf.kept_here import KeptHere
 from edgebpf.limits import MOST_EDITS, MOST_VERTICES
 from edgebpf.parts import Parts
 from edgebpf.programs import Program, argument_of, handle_of
@@ -44,10 +45,11 @@ def memory_of(handle: library.Handle) -> memoryview:
     return memoryview(memory).toreadonly()
 
 
-class Store:
+class Store(KeptHere):
     """A graph in this process, without an edge at first. Batches and runs have one worker; it may be used by several threads, which take
     turns, and is a context manager. vertices: 1 to 268,435,456. `ids` has the id of each vertex where `read_edges` renumbered them, else None."""
 
+    _called, _instead = "a store", "; csr() of a version has its edges, and Store.from_csr takes them"
     ids: npt.NDArray[np.int64] | list[str] | None = None
 
     def __init__(self, vertices: int) -> None:
@@ -169,6 +171,9 @@ class Store:
             library.check(calls.pin(handle.at, pin.at))
         return library.Shared(pin, calls.share_version)
 
+    def __repr__(self) -> str:
+        return f"<edgebpf.Store: {self.vertices} vertices{', closed' if self._handle is None else ''}>"
+
     def close(self) -> None:
         """Drops the store; its versions stay. May be called twice."""
         self._handle = None
@@ -180,10 +185,12 @@ class Store:
         self.close()
 
 
-class Version:
+class Version(KeptHere):
     """A version of a store's graph. `epoch` is how many rebases there were before it, `number` how many batches there were since then,
     `vertices` and `edges` how large it is, and `len` gives the vertices. Threads may use it at the same time. Its memory is freed once it
     and its shares are closed and no view of it is left."""
+
+    _called, _instead = "a version", "; csr() has its edges"
 
     def __init__(self, shared: library.Shared) -> None:
         calls = self._calls = library.calls()

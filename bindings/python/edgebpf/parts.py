@@ -26,7 +26,7 @@ class Parts(Steps):
 
     def __init__(self, runs: list[Run], reduction: str, values: Numbers) -> None:
         self._runs, self._reduction, self._values = runs, reduction, values
-        self._stop = threading.Event()
+        self._stop, self._count = threading.Event(), len(values)
 
     @classmethod
     def _over(cls, version: Version, program: Program, reduction: str, frontier: Frontier, inputs: Inputs, threads: int) -> Parts:

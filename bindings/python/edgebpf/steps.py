@@ -13,6 +13,7 @@ import numpy.typing as npt
 from edgebpf import library
 from edgebpf.errors import TimedOut
 from edgebpf.given import REDUCTIONS, WORD, Numbers, Vertices, budget_of, seconds_of
+from edgebpf.kept_here import KeptHere
 from edgebpf.programs import Program, argument_of, handle_of
 
 if TYPE_CHECKING:
@@ -65,9 +66,11 @@ class Inputs(NamedTuple):
     columns: list[Numbers]
 
 
-class Steps:
+class Steps(KeptHere):
     """Work under way over a version. Threads may use it in turns, also `step` of one while another calls it: the second waits. Closing the
     version ends it where it is, and a `share` has handles of its own."""
+
+    _called, _of = "a run", "vertices"
 
     def __init__(self, version: Version, program: Program, inputs: Inputs, count: int) -> None:
         handle_of(program)
@@ -78,6 +81,10 @@ class Steps:
         # What all steps had as budgets, of which `_at` has what is left.
         self._granted, self._rate = 0, FIRST_RATE
         self._most = MOST_WITH_HELPERS if program._has_helpers else MOST_OF_A_STEP
+
+    def __repr__(self) -> str:
+        end = ", done" if self.done else ""
+        return f"<edgebpf.{type(self).__name__}: {self.vertex} of {self._count} {self._of}, {self.edges} numbers{end}>"
 
     def step(self, budget: int | None = None) -> None:
         """Goes on as far as a budget of units goes, 0 to 2^64 - 1, and by one edge or one vertex at least. README has what an edge takes.
@@ -320,6 +327,8 @@ class NumbersRun(Steps):
 
 class PairsRun(Steps):
     """The numbers of pairs under way, made by `Version.begin_pairs`. `vertex` and `edges` are how many pairs are done."""
+
+    _of = "pairs"
 
     def __init__(self, version: Version, program: Program, ends: tuple[Vertices, Vertices], inputs: Inputs) -> None:
         super().__init__(version, program, inputs, len(ends[0]))

@@ -22,6 +22,7 @@ from edgebpf.given import (
     FEEDS, NO_COLUMNS, Columns, Edges, Numbers, Pairs, Vertices, columns_of, edits_of, edits_of_batch, feed_of, frozen, reduction_of,
     threads_of, values_into, vertex_count, vertex_of, vertices_of, whole,
 )
+from edgebpf.kept_here import KeptHere
 from edgebpf.limits import MOST_BATCHES, MOST_EDITS, MOST_KEPT, MOST_LINE_BYTES, SERVED_EPOCHS, SERVED_VERTICES
 from edgebpf.programs import Program, argument_of, command, said_lines
 
@@ -171,8 +172,10 @@ class Process:
         self.errors.close()
 
 
-class Store:
+class Store(KeptHere):
     """A graph that is edited by batches. Made by `connect`; may be used by several threads, and is a context manager."""
+
+    _called, _instead = "a store", ", which has its edgebpf"
 
     def __init__(self, process: Process, vertices: int) -> None:
         self._process, self.vertices = process, vertices
@@ -280,6 +283,9 @@ class Store:
                 self._programs[program._same] = name
             return self._programs[program._same]
 
+    def __repr__(self) -> str:
+        return f"<edgebpf.Store: {self.vertices} vertices, in process {self._process.child.pid}{', closed' if self._process.input.closed else ''}>"
+
     def close(self) -> None:
         """Ends the process, and with it the graph and its versions. May be called twice."""
         self._process.close()
@@ -291,9 +297,11 @@ class Store:
         self.close()
 
 
-class Version:
+class Version(KeptHere):
     """A version of a store's graph. `epoch` is how many rebases there were before it, `number` how many batches there were since then,
     `vertices` and `edges` how large it is, and `len` gives the vertices."""
+
+    _called, _instead = "a version", "; csr() has its edges"
 
     def __init__(self, store: Store, name: str, epoch: int, number: int, edges: int) -> None:
         self._store, self._name, self.epoch, self.number, self.edges = store, name, epoch, number, edges

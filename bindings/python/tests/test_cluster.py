@@ -3,6 +3,7 @@ import contextlib
 import importlib.util
 import os
 import pathlib
+import pickle
 import random
 import signal
 import sqlite3
@@ -124,6 +125,13 @@ class OverAnEngine(Base):
             counts = [cluster.begin([number % 300], [number // 300]) for number in range(4_200)]
             self.assertEqual(sum(one.result().added for one in counts), 4_200)
             self.assertEqual([worker.part._versions[4_200].epoch for worker in engine.placed], [4_200 // cluster_part.REBASE_BATCHES - (4_200 % cluster_part.REBASE_BATCHES == 0)] * 2)
+
+    def test_what_is_not_pickled(self):
+        with wild(parts=2) as (cluster, _):
+            self.assertEqual(repr(cluster), "<edgebpf.Cluster: 600 vertices, 2 parts>")
+            self.raises(TypeError, "^a Cluster is not pickled: it belongs to this process", pickle.dumps, cluster)
+            self.raises(TypeError, "^a version is not pickled: it belongs to this process", pickle.dumps, cluster.pin())
+        self.assertEqual(repr(cluster), "<edgebpf.Cluster: 600 vertices, 2 parts, closed>")
 
     def test_versions_are_let_go(self):
         """A version that is dropped without `close` is not kept, and a closed one answers nothing."""

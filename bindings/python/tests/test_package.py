@@ -1,7 +1,9 @@
 """The Python package over an `edgebpf` process: what README shows, answers against sets and scipy, and each error."""
 import concurrent.futures
+import copy
 import os
 import pathlib
+import pickle
 import random
 import re
 import signal
@@ -260,6 +262,20 @@ class Package(unittest.TestCase):
         version.close()
         self.assertEqual(repr(version), "<edgebpf.Version: epoch 1, number 0, 4 vertices, 2 edges, closed>")
         self.assertEqual(repr(edgebpf.assemble(TARGET)), "<edgebpf.Program: records of 16 bytes, a table of 0, bound 2, frames 1>")
+
+    def test_what_is_not_pickled(self):
+        """The words say what it is, and a copy is over the same."""
+        store, words = self.store(4), "^a {} is not pickled: it belongs to this process"
+        pid = store._process.child.pid
+        self.assertEqual(repr(store), f"<edgebpf.Store: 4 vertices, in process {pid}>")
+        for kept, what in ((store, "store"), (store.pin(), "version")):
+            for call in (pickle.dumps, copy.deepcopy):
+                with self.assertRaisesRegex(TypeError, words.format(what)):
+                    call(kept)
+        self.assertEqual(store.batch(edges=[(0, 1)]).version, 1)
+        self.assertEqual((copy.copy(store.pin()).edges, store.pin().share().edges), (1, 1))
+        store.close()
+        self.assertEqual(repr(store), f"<edgebpf.Store: 4 vertices, in process {pid}, closed>")
 
     def test_wrong_arguments(self):
         """What has the wrong type is named, and the graph stays as it was."""

@@ -1,8 +1,10 @@
 """Runs in steps: the worked rows of a graph of 8 vertices, what is wrong, pauses, and runs that are ended by a host."""
 import contextlib
+import copy
 import io
 import os
 import pathlib
+import pickle
 import signal
 import sys
 import threading
@@ -43,6 +45,32 @@ class Steps(unittest.TestCase):
         self.addCleanup(self.store.close)
         self.store.batch("A", edges=EDGES)
         self.version, self.target = self.store.pin(), edgebpf.assemble(TARGET)
+
+    def test_what_is_not_pickled(self):
+        """A store, a version and runs say what they are, and why they are not pickled."""
+        run, live = self.version.begin(self.target, frontier=[0, 1, 7]), edgebpf.Live.of(self.version)
+        self.addCleanup(live.close)
+        run.step(0)
+        pairs = self.version.begin_pairs(self.target, [0, 1], [3, 4])
+        pairs.step()
+        with self.assertRaises(edgebpf.TimedOut) as raised:
+            self.version.run(edgebpf.assemble(HOSTILE), threads=2, seconds=0.0)
+        live.apply(edges=[(7, 7)])
+        for kept, what, wanted in (
+            (self.store, "store", "<edgebpf.Store: 8 vertices>"), (self.version, "version", "<edgebpf.Version: epoch 0, number 1, 8 vertices, 12 edges>"),
+            (run, "run", "<edgebpf.Run: 0 of 3 vertices, 1 numbers>"), (pairs, "run", "<edgebpf.PairsRun: 2 of 2 pairs, 2 numbers, done>"),
+            (raised.exception.run, "run", None), (live, "Live", "<edgebpf.Live 1: 8 vertices, 13 edges>"),
+            (live.latest(), "version", "<edgebpf.Version: epoch 0, number 1, 8 vertices, 13 edges>"),
+        ):
+            self.assertEqual(repr(kept), wanted or repr(kept))
+            for call in (pickle.dumps, copy.deepcopy):
+                with self.assertRaisesRegex(TypeError, f"^a {what} is not pickled: it belongs to this process"):
+                    call(kept)
+        self.assertRegex(repr(raised.exception.run), "^<edgebpf.Parts: [0-8] of 8 vertices, [0-9]+ numbers(, done)?>$")
+        self.assertEqual(copy.copy(self.version).edges, 12)
+        self.store.close()
+        live.close()
+        self.assertEqual((repr(self.store), repr(live)), ("<edgebpf.Store: 8 vertices, closed>", "<edgebpf.Live 1: 8 vertices, 13 edges, closed>"))
 
     def test_budget_of_nothing(self):
         """One edge a call, and a vertex without edges in a call of its own."""
