@@ -1,12 +1,12 @@
 #!/usr/bin/env python3
-"""Serves scripts whose pages, trees and frames have sizes that rows leave out, and compares: sizes.py PROGRAM.
+"""Serves scripts whose pages, trees, frames and columns have sizes that rows leave out, and compares: sizes.py PROGRAM.
 
 A contract lets a call answer that memory ran out, whatever the cause. So a call that gives up above some size is proved, too, and only a script of that
 size shows it. Every answer has to be that of the second implementation.
 """
 import sys
 
-from script import serve
+from script import MOST_LINE_BYTES, serve
 from serving import served
 
 SECONDS = 60
@@ -54,12 +54,20 @@ def many_frames(functions):
     return ["graph 2", *batch(["+ 0 1"]), "pin a", *program, "run deep a sum -"]
 
 
+def longest_column():
+    """A new column by a line of as many numbers as one may have, and that line again for the column that is there."""
+    begins = "column x 0"
+    line = begins + (MOST_LINE_BYTES - len(begins)) // len(" 7") * " 7"
+    return [f"graph {MOST_LINE_BYTES}", line, "values x 0 3", line.replace("7", "8"), f"values x {len(line.split()) - 5} 4"]
+
+
 SCRIPTS = {
     "page of long arrays": page_of_long_arrays(),
     "words before others": words_before_others(),
     "six frames": many_frames(6),
     "seven frames": many_frames(7),
     "eight frames": many_frames(8),
+    "longest column": longest_column(),
 }
 
 
