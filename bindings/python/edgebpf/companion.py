@@ -15,6 +15,7 @@ import numpy.typing as npt
 
 from edgebpf import library, native, store
 from edgebpf.errors import Closed, Error, NotHere, TimedOut
+from edgebpf.kept_here import KeptHere
 from edgebpf.steps import STEP_SECONDS, end_after
 
 Answer = TypeVar("Answer")
@@ -288,9 +289,11 @@ class Crew:
             raise self._failed[0]
 
 
-class Task(Generic[Answer]):
+class Task(KeptHere, Generic[Answer]):
     """An algorithm under way. `at` is how much is done, and of how much; `result` is its answer once it is `done`. Threads may step it in turns. To
     cancel it, drop it."""
+
+    _called = "an algorithm under way"
 
     def __init__(self, pieces: Pieces[Answer]) -> None:
         self._pieces, self._lock = pieces, threading.Lock()
@@ -299,6 +302,9 @@ class Task(Generic[Answer]):
         self.at = (0, 0)
         # What was given is tested before the first piece.
         self._go_on()
+
+    def __repr__(self) -> str:
+        return f"<edgebpf.algorithms.Task: {self.at[0]} of {self.at[1]}{', done' if self.done else ''}>"
 
     def _go_on(self) -> None:
         """One piece more."""

@@ -1,10 +1,12 @@
 """`edgebpf.algorithms`: rows that were found by hand, random graphs and streams beside networkx, igraph and scipy, what is refused, and calls that end
 before they are done."""
 import contextlib
+import copy
 import importlib.util
 import io
 import os
 import pathlib
+import pickle
 import random
 import signal
 import subprocess
@@ -412,6 +414,15 @@ class Pieces(WithStores):
         while not task.done:
             task.step()
         self.assertEqual(task.result.ranks.tolist(), algorithms.pagerank(version, within=0, seconds=1000).ranks.tolist())
+
+    def test_what_a_task_is(self):
+        task = algorithms.begin("components", self.eight())
+        self.assertRegex(repr(task), r"^<edgebpf\.algorithms\.Task: \d+ of \d+>$")
+        for copied in (pickle.dumps, copy.deepcopy):
+            with self.assertRaisesRegex(TypeError, "^an algorithm under way is not pickled: it belongs to this process$"):
+                copied(task)
+        task.step(60)
+        self.assertRegex(repr(task), r"^<edgebpf\.algorithms\.Task: \d+ of \d+, done>$")
 
     def test_a_failed_task(self):
         version = self.eight()
