@@ -1,18 +1,32 @@
 #!/usr/bin/python3
 """Counts the instructions that runs and pushes take for each edge, by callgrind: whole ones, over a range, and in steps of 100,000 units.
 
-    tools/dev/count_runs.py [LIBRARY]   libedgebpf.a, by default that of dist/build
+    tools/dev/count_runs.py [LIBRARY] [--write]   libedgebpf.a, by default that of dist/build
 
-The graph has 16,384 vertices and some 4 or 12 edges for each, in random places. A row has the figures of both graphs.
+The graph has 16,384 vertices and some 4 or 12 edges for each, in random places. A cell has the figures of both graphs. With --write they go into
+docs/figures/runs.txt; what was measured there of older code stays. The library's code for x86-64-v2 is taken, unless EDGEBPF_CPU names another.
 """
+import argparse
+import os
 import pathlib
 import re
 import subprocess
 import sys
 import tempfile
 
+import figures
+
 TOP = pathlib.Path(__file__).resolve().parent.parent.parent
-PROGRAMS, KINDS, BATCHES = ("two", "column", "columns", "filter", "calls"), ("run", "range", "push", "steps", "numbers", "some"), (1, 3)
+# What a program of count_runs.c is called in the table, and the head of what each kind of run takes there.
+PROGRAMS = {
+    "two": "two instructions",
+    "filter": "19 instructions with a branch",
+    "calls": "three calls of a function",
+    "column": "two instructions, the target's number of a column",
+    "columns": "four instructions, the targets' numbers of two columns",
+}
+KINDS = {"run": "Run", "range": "Over a range", "steps": "In steps", "push": "Push", "numbers": "Numbers", "some": "Numbers in steps"}
+BATCHES = (1, 3)
 
 
 def output(*command):
@@ -32,14 +46,34 @@ def of_an_edge(program, *words):
     return (instructions(program, *words, 1) - instructions(program, *words, 0)) / edges
 
 
+def counted(program, name):
+    """The cells of a program, by the heads of their columns."""
+    return {head: " and ".join(f"{of_an_edge(program, name, kind, batches):.1f}" for batches in BATCHES) for kind, head in KINDS.items()}
+
+
+def write(rows):
+    """Writes the rows, each with the cells of older code that the table has of its program."""
+    _, heads, old = figures.read("runs")
+    cells = {row[0]: dict(zip(heads, row)) for row in old}
+    found = [[{**cells.get(program, {}), **row, heads[0]: program}.get(head, "") for head in heads] for program, row in rows.items()]
+    figures.write("runs", heads, found, figures.now(has_load=False))
+
+
 def main():
-    library = pathlib.Path(sys.argv[1]) if len(sys.argv) > 1 else TOP / "dist" / "build" / "libedgebpf.a"
+    parser = argparse.ArgumentParser(description=__doc__, formatter_class=argparse.RawDescriptionHelpFormatter)
+    parser.add_argument("library", nargs="?", type=pathlib.Path, default=TOP / "dist" / "build" / "libedgebpf.a")
+    parser.add_argument("--write", action="store_true")
+    options = parser.parse_args()
+    os.environ.setdefault("EDGEBPF_CPU", "x86-64-v2")
+    rows = {}
     with tempfile.TemporaryDirectory() as folder:
         program = pathlib.Path(folder) / "count_runs"
-        output("cc", "-O2", f"-I{TOP / 'bindings' / 'c'}", "-o", program, TOP / "tools" / "dev" / "count_runs.c", library)
-        for name in PROGRAMS:
-            for kind in KINDS:
-                print(name, kind, *(f"{of_an_edge(program, name, kind, batches):.1f}" for batches in BATCHES), flush=True)
+        output("cc", "-O2", f"-I{TOP / 'bindings' / 'c'}", "-o", program, TOP / "tools" / "dev" / "count_runs.c", options.library)
+        for name, title in PROGRAMS.items():
+            rows[title] = counted(program, name)
+            print(name, *(f"{head}: {cell}" for head, cell in rows[title].items()), sep="; ", flush=True)
+    if options.write:
+        write(rows)
 
 
 if __name__ == "__main__":
