@@ -1,5 +1,5 @@
 //! The numbers of a version's edges, each written to its place.
-ghost use Rattle.std.specs.Prelude.{◌≡◌, ◌+◌, ◌≤◌, ◌++◌, length, drop};
+ghost use Rattle.std.specs.Prelude.{◌≡◌, ◌+◌, ◌≤◌, ◌++◌, false, length, drop};
 ghost use Rattle.past_model.specs.declared.limits.TheConstants.{MOST_VERTICES};
 ghost use Rattle.graph_model.specs.Graph.{degree as degree_of};
 ghost use Rattle.graph_model.specs.Graph.{edge_count, neighbours, numbers_below};
@@ -10,6 +10,7 @@ ghost use Rattle.edge_fold.specs.Kept.{IsFor};
 ghost use Rattle.edge_fold.specs.Numbers.{first_numbers, span_numbers};
 ghost use Rattle.bpf_runs.specs.Held.{HoldsTable};
 ghost use Rattle.edge_fold.specs.Inputs.{inputs_of};
+ghost use Rattle.edge_fold.specs.declared.fold.TheConstants.{LEAST_IN_BLOCK};
 
 use crate::blocks::{Blocks, fill, sweep, targets_from};
 use crate::edge::Edge;
@@ -36,6 +37,7 @@ pub(crate) fn number_block(
     ensures numbers { let m = mapped.now in numbers.new
         ≡ first_numbers m.program.now (graph_of m.version.now) (inputs_of m) span.entry result
         ++ drop result numbers.old }
+    ensures given_up { result ≡ 0 → LEAST_IN_BLOCK ≤ length span.entry.targets.now → blocks.new.is_useful ≡ false }
 {
     let count = LANES.min(span.targets.len());
     if count < LEAST_IN_BLOCK || !blocks.is_useful {

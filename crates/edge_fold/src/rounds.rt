@@ -1,5 +1,5 @@
 //! Rounds of a push over edges in a row: those whose numbers are kept, a block, or some edge by edge.
-ghost use Rattle.std.specs.Prelude.{◌≡◌, ◌+◌, ◌-◌, ◌*◌, ◌^◌, ◌<◌, ◌≤◌, ◌∷◌, [], ℕ, length, take, slice_index};
+ghost use Rattle.std.specs.Prelude.{◌≡◌, ◌+◌, ◌-◌, ◌*◌, ◌^◌, ◌<◌, ◌≤◌, ◌∷◌, [], ℕ, false, length, take, slice_index};
 ghost use Rattle.past_model.specs.declared.limits.TheConstants.{MOST_VERTICES};
 ghost use Rattle.graph_model.specs.Graph.{degree as degree_of};
 ghost use Rattle.past_model.specs.Past.{graph_of};
@@ -9,6 +9,7 @@ ghost use Rattle.verifier.specs.Walks.{longest};
 ghost use Rattle.bpf_blocks.specs.declared.columns.TheConstants.{LANES};
 ghost use Rattle.bpf_runs.specs.Held.{HoldsTable};
 ghost use Rattle.edge_fold.specs.declared.budget.TheConstants.{EDGE_COST};
+ghost use Rattle.edge_fold.specs.declared.fold.TheConstants.{LEAST_IN_BLOCK};
 ghost use Rattle.edge_fold.specs.Inputs.{inputs_of};
 ghost use Rattle.edge_fold.specs.Kept.{AreNumbered, IsFor};
 ghost use Rattle.edge_fold.specs.Numbers.{first_numbers, span_numbers};
@@ -133,6 +134,7 @@ fn push_block(
         length (first_numbers m.program.now (graph_of m.version.now) (inputs_of m) span.entry result.count)
         ≡ result.count }
     ensures few { result.count ≤ length span.entry.targets.now }
+    ensures given_up { result.count ≡ 0 → LEAST_IN_BLOCK ≤ length span.entry.targets.now → blocks.new.is_useful ≡ false }
 {
     let count = LANES.min(span.targets.len());
     if count >= LEAST_IN_BLOCK && blocks.is_useful {

@@ -62,7 +62,8 @@ impl Model for Table {
 
 /// Whether the next edited shard, if there is one, is of no range below `end`.
 fn is_past(made: &[&EditedShard], next: usize, end: usize) -> bool
-    ensures { IsTrue result → IsNoneBelow made.now next end }
+    ensures past { IsTrue result → IsNoneBelow made.now next end }
+    ensures within { IsNoneBelow made.now next end → IsTrue result }
 {
     next >= made.len() || made[next].range() as usize >= end
 }

@@ -7,6 +7,7 @@ pub mod Put
 pub mod ShortBlocks
 pub mod Lists
 pub mod Pages
+pub mod PageSizes
 pub mod Begun
 pub mod Edited
 pub mod Arrays

@@ -288,7 +288,8 @@ impl Lists {
     fn push_nowhere(&mut self)
         requires kept { AreKept self.old }
         requires room { length (rows_of self.old) < PAGE_VERTICES }
-        ensures { IsPushed self.old self.new [] Block }
+        ensures pushed { IsPushed self.old self.new [] Block }
+        ensures blocks { self.new.blocks.items ≡ self.old.blocks.items }
     {
         self.places.push(Place::Nowhere);
     }
@@ -299,7 +300,8 @@ impl Lists {
         requires room { length (rows_of self.old) < PAGE_VERTICES }
         requires set { IsSet words.now }
         requires short { length words.now ≤ SHORT_PLACES }
-        ensures { IfOk result (λ _. IsPushed self.old self.new words.now Block) }
+        ensures pushed { IfOk result (λ _. IsPushed self.old self.new words.now Block) }
+        ensures blocks { self.new.blocks.items ≡ self.old.blocks.items }
     {
         let number = self.shorts.ends.len() as u8;
         self.shorts.push(words)?;
@@ -324,7 +326,8 @@ impl Lists {
         requires kept { AreKept self.old }
         requires room { length (rows_of self.old) < PAGE_VERTICES }
         requires set { IsSet words.now }
-        ensures { IfOk result (λ _. IsPushed self.old self.new words.now Gapped) }
+        ensures pushed { IfOk result (λ _. IsPushed self.old self.new words.now Gapped) }
+        ensures blocks { self.new.blocks.items ≡ self.old.blocks.items }
     {
         let number = self.array.vertex_count() as u8;
         self.array.push(words)?;
@@ -336,7 +339,8 @@ impl Lists {
     fn push_tree(&mut self, tree: NeighbourTree) -> Result<(), AllocError>
         requires kept { AreKept self.old }
         requires room { length (rows_of self.old) < PAGE_VERTICES }
-        ensures { IfOk result (λ _. IsPushed self.old self.new tree Tree) }
+        ensures pushed { IfOk result (λ _. IsPushed self.old self.new tree Tree) }
+        ensures blocks { self.new.blocks.items ≡ self.old.blocks.items }
     {
         let number = self.trees.len() as u8;
         self.trees.push(tree)?;
@@ -344,7 +348,7 @@ impl Lists {
         Ok(())
     }
 
-    /// Puts a list after the others, in this home.
+    /// Puts a list after the others, in this home. A block of its own is for more words than a short one has places for.
     pub(crate) fn push(
         &mut self,
         alloc: Global,
@@ -355,7 +359,8 @@ impl Lists {
         requires room { length (rows_of self.old) < PAGE_VERTICES }
         requires set { IsSet words.now }
         requires fits { IsHomeOf home (length words.now) }
-        ensures { IfOk result (λ _. IsPushed self.old self.new words.now home) }
+        ensures pushed { IfOk result (λ _. IsPushed self.old self.new words.now home) }
+        ensures short { length words.now ≤ SHORT_PLACES → self.new.blocks.items ≡ self.old.blocks.items }
     {
         match home {
             Home::Block => {

@@ -1,6 +1,7 @@
 //! How many vertices the pages of a shard have.
-ghost use Rattle.std.specs.Prelude.{◌≡◌, ◌/◌, ◌%◌, ◌^◌, ◌<◌, ◌≤◌};
+ghost use Rattle.std.specs.Prelude.{◌≡◌, ◌/◌, ◌%◌, ◌^◌, ◌<◌, ◌≤◌, ◌↔◌, IsTrue};
 ghost use Rattle.shards.specs.declared.pages.TheConstants.{PAGE_VERTICES};
+ghost use Rattle.shards.specs.PageSizes.{Suits};
 
 /// How many vertices each page of a shard has but the last: a power of two, so that a list is found without a division.
 ///
@@ -31,6 +32,7 @@ impl PageSize {
     /// The size for so many words of so many vertices, by which a page has some 4 to 8 KB.
     pub(crate) fn of(words: usize, vertices: usize) -> PageSize
         requires { 0 < vertices }
+        ensures { Suits result.power (words / vertices) }
     {
         let each = words / vertices;
         let (power, vertices) = if each < 9 {
@@ -52,6 +54,7 @@ impl PageSize {
     /// changes it again and again.
     pub(crate) fn is_kept(self, words: usize, vertices: usize) -> bool
         requires { 0 < vertices }
+        ensures { IsTrue result ↔ Suits self.power (words / vertices) }
     {
         let each = words / vertices;
         match self.power {

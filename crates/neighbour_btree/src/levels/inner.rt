@@ -229,7 +229,8 @@ pub(crate) fn mended<C: Level>(
     requires sound { IsSound C.least (C.node node) }
     requires size { FEWEST ≤ (C.node node).size + 1 }
     requires set { IsSet (words_under (replacement children.now at 1 (C.node node) None)) }
-    ensures { IfOk result (λ list. Mends C.least children.now at (C.node node) list.items) }
+    ensures mends { IfOk result (λ list. Mends C.least children.now at (C.node node) list.items) }
+    ensures alone { FEWEST ≤ (C.node node).size → IfOk result (λ list. length list.items ≡ length children.now) }
 {
     if FEWEST <= node.size() {
         let list = with_replaced(alloc, children, at, 1, (Child::of(node), None))?;

@@ -28,7 +28,7 @@ loop-place-preserved c =
     let first : ℕ = c.args.first in
     let place : ℕ = c.loop-place.place in
     let row : List ℕ = list_of starts targets (first + place) in
-    let pushed = c.in_ok-push.ensures in
+    let pushed = c.in_ok-push.ensures.pushed in
     record {
       kept = pushed.kept;
       rows = pushed.rows ∙ ap (λ (l : List (List ℕ)). l ++ row ∷ []) c.loop-place.invariant.rows ∙ sym (one_from (list_of starts targets) first place);

@@ -20,7 +20,7 @@ push-requires-clause-set c =
 pub returns : goal.returns
 returns c =
     let words = c.words-words.ensures in
-    let pushed = c.in_ok-push.ensures in
+    let pushed = c.in_ok-push.ensures.pushed in
     record {
       after = c.edited_list.new.merged;
       to = c.after-home.result;

@@ -32,7 +32,7 @@ returns-in_ok-list-in-Some-clause-inner g c =
     let f = found_there g.C.Level.least ns c.as_slice.result.now c.args.word at child c.requires.inner c.as_slice.ensures.value c.requires.word c.child_for-at.ensures.within c.child_for-at.ensures.from c.child_for-at.ensures.to c.index.ensures in
     let n = g.C.Level.node c.in-Some.node in
     let shrinks = rw c.in-Some.is at c.in_ok-without.ensures in
-    let m = mended_child g.C.Level.least ns c.as_slice-in-Some.result.now c.in_ok-list-in-Some.list.items c.args.word at child (g.C.Level.node c.node.result.now) n f c.as_slice-in-Some.ensures.value c.node.ensures.node c.requires.enough shrinks.1 c.in_ok-list-in-Some.ensures in
+    let m = mended_child g.C.Level.least ns c.as_slice-in-Some.result.now c.in_ok-list-in-Some.list.items c.args.word at child (g.C.Level.node c.node.result.now) n f c.as_slice-in-Some.ensures.value c.node.ensures.node c.requires.enough shrinks.1 c.in_ok-list-in-Some.ensures.mends in
     m.0
 
 pub returns-in_ok-list-in-Some-clause-ok : goal.returns-in_ok-list-in-Some-clause-ok
@@ -43,6 +43,6 @@ returns-in_ok-list-in-Some-clause-ok g c =
     let f = found_there g.C.Level.least ns c.as_slice.result.now c.args.word at child c.requires.inner c.as_slice.ensures.value c.requires.word c.child_for-at.ensures.within c.child_for-at.ensures.from c.child_for-at.ensures.to c.index.ensures in
     let n = g.C.Level.node c.in-Some.node in
     let shrinks = rw c.in-Some.is at c.in_ok-without.ensures in
-    let m = mended_child g.C.Level.least ns c.as_slice-in-Some.result.now c.in_ok-list-in-Some.list.items c.args.word at child (g.C.Level.node c.node.result.now) n f c.as_slice-in-Some.ensures.value c.node.ensures.node c.requires.enough shrinks.1 c.in_ok-list-in-Some.ensures in
+    let m = mended_child g.C.Level.least ns c.as_slice-in-Some.result.now c.in_ok-list-in-Some.list.items c.args.word at child (g.C.Level.node c.node.result.now) n f c.as_slice-in-Some.ensures.value c.node.ensures.node c.requires.enough shrinks.1 c.in_ok-list-in-Some.ensures.mends in
     let present : has_word c.args.word child.words ≡ true = ap (λ (m : Node). has_word c.args.word m.words) (sym c.node.ensures.node) ∙ shrinks.0 in
     (found_has g.C.Level.least ns c.args.word at child f ∙ present, m.1, m.2, sound_inner g.C.Level.least c.in_ok-list-in-Some.list.items m.0)

@@ -11,8 +11,8 @@ join-requires-clause-within g c =
     let is : next ≡ get_or ns (c.args.at + 1) nothing = c.node.ensures.node ∙ c.index-children-at.is ∙ get_or_default ns (c.args.at + 1) c.index-children-at.result nothing (omega (arith, c.if-at-children.true)) in
     right_set ns c.args.at (g.C.Level.node c.args.node) next c.requires.set (omega (arith, c.if-at-children.true)) is
 
-pub returns-then-at-children : goal.returns-then-at-children
-returns-then-at-children g c =
+pub returns-then-at-children-clause-mends : goal.returns-then-at-children-clause-mends
+returns-then-at-children-clause-mends g c =
     let ns = c.args.children.now in
     let n = g.C.Level.node c.args.node in
     let next = g.C.Level.node c.node.result.now in
@@ -28,8 +28,8 @@ join-requires-2-clause-within g c =
     let is : before ≡ get_or ns (c.args.at - 1) nothing = c.node-2.ensures.node ∙ c.index-children-at-2.is ∙ get_or_default ns (c.args.at - 1) c.index-children-at-2.result nothing (omega (arith, c.requires.within)) in
     left_set ns c.args.at (g.C.Level.node c.args.node) before c.requires.set (omega (arith, c.if-at-children.false, c.requires.enough)) c.requires.within is
 
-pub returns : goal.returns
-returns g c =
+pub returns-clause-mends : goal.returns-clause-mends
+returns-clause-mends g c =
     let ns = c.args.children.now in
     let n = g.C.Level.node c.args.node in
     let before = g.C.Level.node c.node-2.result.now in

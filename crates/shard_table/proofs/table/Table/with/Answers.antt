@@ -43,6 +43,11 @@ few g parts old count all is table small = omega (arith, few_parts g parts table
 long : (shards : List (Arc Part Global)) (block : Arc (List Part) Global) → parts_of shards ≡ arc_value block → length shards ≡ length (arc_value block)
 long shards block is = sym (length-map shards arc_value) ∙ ap length is
 
+pub with-requires-clause-fits : goal.with-requires-clause-fits
+with-requires-clause-fits c =
+    let all : c.self.inside.count ≡ length c.args.self.now = c.self.invariant.1 ∙ ap length c.self.view_is in
+    omega (arith, c.requires.batch.count, all, few c.requires.batch.editable.graph c.args.self.now c.self.inside.blocks.items c.self.inside.count c.self.invariant.1 c.self.view_is c.requires.batch.editable.table c.requires.batch.editable.small)
+
 pub overflow_mul-first : goal.overflow_mul-first
 overflow_mul-first c =
     let old = c.self.inside.blocks.items in
@@ -72,7 +77,7 @@ loop-number-preserved-then-is_past c =
     let same : arc_value c.in_ok-try_clone.field-0 ≡ arc_value (get_or old number block) = c.in_ok-try_clone.ensures ∙ ap arc_value is in
     let within : c.self.inside.width.shards * number + length c.shards.result.now ≤ length c.args.self.now =
     (let all : c.self.inside.count ≡ length c.args.self.now = c.self.invariant.1 ∙ ap length c.self.view_is in omega (arith, size, all, inside c.self.inside.width.shards old number c.self.inside.count block full c.self.invariant.1 h is)) in
-    let untouched = none_made (length c.shards.result.now) c.args.groups.now c.requires.batch.editable.graph c.args.self.now c.args.made.now (c.self.inside.width.shards * number) c.loop-number.next c.requires.batch.editable.table c.requires.made (c.loop-number.invariant.next h) within (c.is_past.ensures c.if-is_past.true) in
+    let untouched = none_made (length c.shards.result.now) c.args.groups.now c.requires.batch.editable.graph c.args.self.now c.args.made.now (c.self.inside.width.shards * number) c.loop-number.next c.requires.batch.editable.table c.requires.made (c.loop-number.invariant.next h) within (c.is_past.ensures.past c.if-is_past.true) in
     let unedited : (range : ℕ) → c.self.inside.width.shards * number ≤ range → range < c.self.inside.width.shards * number + length (arc_value c.in_ok-try_clone.field-0) → range_edits c.args.groups.now.count es range ≡ [] =
     (λ range low high. sym (edits_in c.args.groups.now c.requires.batch.by_range range) ∙ untouched range low (omega (arith, high, size, ap length c.in_ok-try_clone.ensures))) in
     record {

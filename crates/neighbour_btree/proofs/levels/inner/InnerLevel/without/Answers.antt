@@ -17,7 +17,7 @@ new-requires g c =
     let n = g.C.Level.node c.in-Some.node in
     let shrinks = rw c.in-Some.is at c.in_ok-without.ensures in
     let size : (inner_of ns).size ≡ c.args.self.now.size = ap (λ (m : Node). m.size) c.self.view_is in
-    let m = mended_child g.C.Level.least ns cs c.in_ok-list-in-Some.list.items c.args.word c.child_for-at.result child (g.C.Level.node c.node.result.now) n f same c.node.ensures.node (omega (arith, c.requires.enough)) shrinks.1 c.in_ok-list-in-Some.ensures in
+    let m = mended_child g.C.Level.least ns cs c.in_ok-list-in-Some.list.items c.args.word c.child_for-at.result child (g.C.Level.node c.node.result.now) n f same c.node.ensures.node (omega (arith, c.requires.enough)) shrinks.1 c.in_ok-list-in-Some.ensures.mends in
     m.0
 
 pub returns-in-None : goal.returns-in-None
@@ -52,7 +52,7 @@ returns-in_ok-node-in-Some g c =
     let n = g.C.Level.node c.in-Some.node in
     let shrinks = rw c.in-Some.is at c.in_ok-without.ensures in
     let size : (inner_of ns).size ≡ c.args.self.now.size = ap (λ (m : Node). m.size) c.self.view_is in
-    let m = mended_child g.C.Level.least ns cs c.in_ok-list-in-Some.list.items c.args.word c.child_for-at.result child (g.C.Level.node c.node.result.now) n f same c.node.ensures.node (omega (arith, c.requires.enough)) shrinks.1 c.in_ok-list-in-Some.ensures in
+    let m = mended_child g.C.Level.least ns cs c.in_ok-list-in-Some.list.items c.args.word c.child_for-at.result child (g.C.Level.node c.node.result.now) n f same c.node.ensures.node (omega (arith, c.requires.enough)) shrinks.1 c.in_ok-list-in-Some.ensures.mends in
     let present : has_word c.args.word child.words ≡ true = ap (λ (m : Node). has_word c.args.word m.words) (sym c.node.ensures.node) ∙ shrinks.0 in
     let e = c.in_ok-node-in-Some.ensures in
     let Q : Node → Type 0 = λ m. (has_word c.args.word m.words ≡ true) × (c.in_ok-node-in-Some.node.words ≡ without_word c.args.word m.words) × (m.size ≤ c.in_ok-node-in-Some.node.size + 1) × IsSound (16 * g.C.Level.least) c.in_ok-node-in-Some.node in
