@@ -51,14 +51,6 @@ def counted(program, name):
     return {head: " and ".join(f"{of_an_edge(program, name, kind, batches):.1f}" for batches in BATCHES) for kind, head in KINDS.items()}
 
 
-def write(rows):
-    """Writes the rows, each with the cells of older code that the table has of its program."""
-    _, heads, old = figures.read("runs")
-    cells = {row[0]: dict(zip(heads, row)) for row in old}
-    found = [[{**cells.get(program, {}), **row, heads[0]: program}.get(head, "") for head in heads] for program, row in rows.items()]
-    figures.write("runs", heads, found, figures.now(has_load=False))
-
-
 def main():
     parser = argparse.ArgumentParser(description=__doc__, formatter_class=argparse.RawDescriptionHelpFormatter)
     parser.add_argument("library", nargs="?", type=pathlib.Path, default=TOP / "dist" / "build" / "libedgebpf.a")
@@ -73,7 +65,7 @@ def main():
             rows[title] = counted(program, name)
             print(name, *(f"{head}: {cell}" for head, cell in rows[title].items()), sep="; ", flush=True)
     if options.write:
-        write(rows)
+        figures.update("runs", rows, figures.now(has_load=False))
 
 
 if __name__ == "__main__":

@@ -38,6 +38,13 @@ def add(name, cells):
     write(name, heads, [*rows, cells], when)
 
 
+def update(name, rows, when=None):
+    """Writes the rows that were measured, each by its name with its cells by their heads. Other cells of these rows stay as they are."""
+    _, heads, old = read(name)
+    known = {row[0]: dict(zip(heads, row)) for row in old}
+    write(name, heads, [[{**known.get(row, {}), **cells, heads[0]: row}.get(head, "") for head in heads] for row, cells in rows.items()], when)
+
+
 def line_of(cells):
     return BETWEEN.join(cell or EMPTY for cell in cells)
 

@@ -11,8 +11,7 @@
     made: modules CRATE      the first sentence of each module of a crate, from its `//!`
     made: classes PATH       the classes of a file in Python, with what they say
     made: reading            the reading list, of count_reading.py
-    made: figures NAME [: [ROW] [@ COLUMN] <= NUMBER] ..  a table of docs/figures, with when it was measured; bold is what is above a number, in the rows
-                             that begin so, and in that column or in all
+    made: figures NAME [: RULE] ..  a table of docs/figures, with when it was measured; figures that miss a limit are bold, by the rules of judged.py
     made: quote PATH HEAD | .. [: ROW | ..]  of the table of a document with these heads the columns below them, or of it the rows that begin so
     made: rounds PATH COLUMN MARK BEGIN  the frontier and a column of a script, round by round
     made: follow CRATE::WORD .. [: WORD ..]  the files that name the items, with the definitions and functions that do, by crate; then those
@@ -25,6 +24,7 @@ import sys
 import textwrap
 
 import figures as measured
+from judged import judged
 from write_rounds import rounds
 
 MADE = re.compile(r"(^<!-- made: (\w+)(?: ([^\n]*))? -->\n).*?(?=^<!-- end -->)", re.S | re.M)
@@ -214,30 +214,10 @@ def table(heads, rows):
     return [f"| {' | '.join(heads)} |", "|---" * len(heads) + "|", *(f"| {' | '.join(cells)} |" for cells in rows)]
 
 
-def bold_above(text, most):
-    """A cell with its figures that are above a number in bold."""
-    def shown(found):
-        return f"**{found[0]}**" if float(found[0].replace(",", "")) > most else found[0]
-
-    return re.sub(r"(?<![\w.:`-])[0-9]+(?:,[0-9]{3})*(?:\.[0-9]+)?(?![\w:`-]|[.,]\d)", shown, text)
-
-
-def judged(heads, rows, limit):
-    """Rows of which the figures that miss a limit are bold. The first column has words, and no figures."""
-    where, _, most = limit.partition("<=")
-    first, _, column = (part.strip() for part in where.partition("@"))
-    if column and column not in heads or not any(row[0].startswith(first) for row in rows):
-        raise LookupError(f"no figure is judged by {limit.strip()}")
-    places = [place for place, head in enumerate(heads) if place and column in ("", head)]
-    number = float(most.replace(",", ""))
-    return [[bold_above(cell, number) if row[0].startswith(first) and place in places else cell for place, cell in enumerate(row)] for row in rows]
-
-
 def figures(pages, words):
-    name, *limits = words.split(" : ")
+    name, _, rules = words.partition(" : ")
     when, heads, rows = measured.read(name)
-    for limit in limits:
-        rows = judged(heads, rows, limit)
+    rows = judged(heads, rows, rules)
     return ["", f"Measured on {when}:" if when[0].isdigit() else f"{when}:", "", *table(heads, rows), ""]
 
 

@@ -116,6 +116,13 @@ class Parts(unittest.TestCase):
             with self.assertRaisesRegex(ValueError, "a run has not as many cells"):
                 figures.read("one")
 
+    def test_what_is_not_measured_stays(self):
+        """By the name of the row: a limit stays, a row that is new has none, and one that is no longer measured goes."""
+        with tempfile.TemporaryDirectory() as folder, unittest.mock.patch.object(figures, "FIGURES", pathlib.Path(folder)):
+            figures.write("one", ("What", "Here", "Limit"), [("a run", "0.5", "2"), ("a pin", "1", "3")], "then")
+            figures.update("one", {"a list": {"Here": "7"}, "a run": {"Here": "0.4"}}, "now")
+            self.assertEqual(figures.read("one"), ("now", ["What", "Here", "Limit"], [["a list", "7", ""], ["a run", "0.4", "2"]]))
+
     def test_figures_that_miss_a_limit(self):
         heads, rows = ["What", "Time", "Ratio"], [["a run of 90", "1,000.5 and 7", "0.31"], ["a list", "2:30", "0.2: 5 of `x9`"], ["a list again", "", "0.5"]]
         for limit, found in (
@@ -124,9 +131,24 @@ class Parts(unittest.TestCase):
             ("a list @ Ratio <= 0.4", [["1,000.5 and 7", "0.31"], ["2:30", "0.2: **5** of `x9`"], ["", "**0.5**"]]),
         ):
             self.assertEqual(write_parts.judged(heads, rows, limit), [[row[0], *cells] for row, cells in zip(rows, found)], limit)
-        for limit in ("@ Speed <= 1", "a pin <= 1"):
+            self.assertEqual(write_parts.judged(heads, rows, f"{limit} : {limit}"), write_parts.judged(heads, rows, limit))
+        for limit in ("@ Speed <= 1", "a pin <= 1", "a run <= @ Speed"):
             with self.assertRaisesRegex(LookupError, "no figure is judged"):
                 write_parts.judged(heads, rows, limit)
+        with self.assertRaisesRegex(LookupError, "no rule for bold figures: a run <="):
+            write_parts.judged(heads, rows, "a run <=")
+
+    def test_figures_that_miss_another_column(self):
+        """At a place of the cell, or so many times the figure at the same place; where there is none, at the last one or not at all."""
+        heads, rows = ["Graph", "Here", "v3 : v2", "Wanted"], [["4", "30; 20", "0.6; 0.3", "0.5; 0.2"], ["14", "30; 20; 25", "0.6", "10; 22"], ["76", "30", "9", ""]]
+        for words, found in (
+            ("@ v3 : v2 <= 1 @ Wanted", [["30; 20", "**0.6**; **0.3**"], ["30; 20; 25", "0.6"], ["30", "9"]]),
+            ("@ v3 : v2 [2] <= 1.5 @ Wanted", [["30; 20", "0.6; 0.3"], ["30; 20; 25", "0.6"], ["30", "9"]]),
+            ("@ v3 : v2 <= 1.25 @ Wanted", [["30; 20", "0.6; **0.3**"], ["30; 20; 25", "0.6"], ["30", "9"]]),
+            ("@ Here <= @ Wanted : 76 [1] >= 31", [["**30**; **20**", "0.6; 0.3"], ["**30**; 20; **25**", "0.6"], ["**30**", "**9**"]]),
+            ("14 @ Here[2] <= @ Wanted[1] : @ Here [1] >= 31", [["**30**; 20", "0.6; 0.3"], ["**30**; **20**; 25", "0.6"], ["**30**", "9"]]),
+        ):
+            self.assertEqual([row[1:3] for row in write_parts.judged(heads, rows, words)], found, words)
 
     def test_counts_grow(self):
         heads = ("Test", "Count", "Of them", "Last", "By")
