@@ -1,11 +1,11 @@
 #!/usr/bin/python3
-"""Measures stores in this process beside scipy's sparse matrices, on R-MAT graphs, and writes the table into docs/SPEED.md.
+"""Measures stores in this process beside scipy's sparse matrices, on R-MAT graphs, and prints a table.
 
     tools/dev/measure_graphs.py [--powers 16 18 ..] [--edges N] [--large NAME..] [--write]
 
 A graph of 2^16 to 2^28 vertices has 8,000,000 drawn edges, and the large ones as many as the graphs that they are named after; edges that were
 drawn twice count once. Each store and each matrix has a process of its own, and both are given the same sorted edges. Seconds are CPU time.
-Without --write the table is printed alone. Debian's packages: python3-numpy python3-scipy python3-cffi.
+With --write the rows also go into docs/figures/graphs.txt. Debian's packages: python3-numpy python3-scipy python3-cffi.
 """
 import argparse
 import ctypes
@@ -17,11 +17,10 @@ import sys
 import tempfile
 import time
 
+import figures
 import numpy as np
 
 TOP = pathlib.Path(__file__).resolve().parent.parent.parent
-PAGE = TOP / "docs" / "SPEED.md"
-BEGIN, END = "<!-- measure_graphs.py -->", "<!-- end of measure_graphs.py -->"
 sys.path.insert(0, str(TOP / "bindings" / "python"))
 EDITS, DRAWN, BATCHES_A_REBASE, TRIES = 65_536, 1 << 22, 1_000, 3
 POWERS, EDGES = (16, 18, 20, 22, 24, 26, 28), 8_000_000
@@ -29,11 +28,7 @@ LARGE = {"LiveJournal": (4_847_571, 69_000_000), "Orkut": (3_072_441, 234_000_00
 TARGET = "ldxw r0, [r1+4]\nexit"
 # How likely both ends are in the lower half, the source alone, and the source or the target alone.
 LOWER, SOURCE_LOWER, ONE_LOWER = 0.57, 0.76, 0.95
-HEAD = [
-    "| Graph | Edges | Store: bytes an edge, peak | scipy: bytes an edge, peak | To load, to scipy | A run, to a product | 65,536 edits, to a sum "
-    "| One edit |",
-    "|---|---|---|---|---|---|---|---|",
-]
+HEADS = ("Graph", "Edges", "Store: bytes an edge, peak", "scipy: bytes an edge, peak", "To load, to scipy", "A run, to a product", "65,536 edits, to a sum", "One edit")
 
 
 def drawn(chance, vertices, count):
@@ -142,25 +137,8 @@ def row(name, vertices, count):
         name, f"{edges:,}", f"{here['held'] / edges:.2f}, {here['peak'] / 1e6:,.0f} MB", f"{peer['held'] / edges:.2f}, {peer['peak'] / 1e6:,.0f} MB",
         *(f"{here[key] / peer[key]:.2f} ({here[key]:.2f} s)" for key in ("load", "run", "many")), f"{1e6 * here['one']:.0f} µs",
     ]
-    print(f"| {' | '.join(cells)} |", flush=True)
-    return f"| {' | '.join(cells)} |"
-
-
-def around():
-    """What the page has before and after the table, by its marks."""
-    before, _, rest = PAGE.read_text().partition(BEGIN)
-    _, end, after = rest.partition(END)
-    if not end:
-        sys.exit(f"measure_graphs.py: {PAGE.name} has no place for the table: a line {BEGIN} and a line {END}")
-    return before, after
-
-
-def write(rows):
-    """Puts the rows between the marks of the page, with the date, the commit and the load."""
-    commit = subprocess.run(["git", "-C", TOP, "rev-parse", "--short=8", "HEAD"], stdout=subprocess.PIPE, text=True, check=True).stdout.strip()
-    when = f"{time.strftime('%Y-%m-%d')}, commit {commit}, load {os.getloadavg()[1]:.0f}"
-    before, after = around()
-    PAGE.write_text("\n".join([before + BEGIN, f"Measured on {when}:", "", *HEAD, *rows, END + after]))
+    print(figures.line_of(cells), flush=True)
+    return cells
 
 
 def main():
@@ -175,14 +153,11 @@ def main():
         kind, path, vertices, edges = options.child
         print(json.dumps({"store": of_store, "scipy": of_scipy}[kind](path, int(vertices), int(edges))))
         return
-    if options.write:
-        # not only after an hour
-        around()
-    print("\n".join(HEAD))
+    print(figures.line_of(HEADS))
     rows = [row(f"2^{power}", 1 << power, options.edges) for power in options.powers]
     rows += [row(name, *LARGE[name]) for name in options.large]
     if options.write:
-        write(rows)
+        figures.write("graphs", HEADS, rows)
 
 
 if __name__ == "__main__":
