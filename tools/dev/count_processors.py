@@ -4,20 +4,19 @@
     tools/dev/count_processors.py [--write] [V2 V3]    two object files or texts; by default libedgebpf.s and libedgebpf-v3.s of dist/
 
 A figure is a difference: of a program that does the work once, less the same program without it. Both libraries have to give the same sums.
---write puts the table into docs/SPEED.md. It needs valgrind, and a processor with what x86-64-v3 asks for.
+With --write the rows go into docs/figures/processors.txt. It needs valgrind, and a processor with what x86-64-v3 asks for.
 """
 import argparse
-import datetime
 import pathlib
 import re
 import subprocess
 import sys
 import tempfile
 
+import figures
+
 TOP = pathlib.Path(__file__).resolve().parent.parent.parent
-PAGE = TOP / "docs" / "SPEED.md"
-BEGIN, END = "<!-- counted by tools/dev/count_processors.py -->", "<!-- end of what was counted -->"
-PLACE = re.compile(re.escape(BEGIN) + ".*?" + re.escape(END), re.S)
+HEADS = ("Instructions an edge", "x86-64-v2", "x86-64-v3", "v3 : v2")
 WORKS = {
     "two": "two instructions",
     "filter": "a filter of 15 instructions",
@@ -49,20 +48,20 @@ def of_an_edge(program, work):
     return (after - before) / int(edges), sum_of_work
 
 
-def table(libraries, folder):
+def counts(libraries, folder):
+    """The rows of the table, which are printed as they come."""
     programs = []
     for number, library in enumerate(libraries):
         programs.append(folder / f"count_{number}")
         sources = [TOP / "tools" / "dev" / "count_processors.c", library, TOP / "bindings" / "c" / "heap.c"]
         output("cc", "-O2", f"-I{TOP / 'bindings' / 'c'}", "-o", programs[-1], *sources)
-    lines = ["| Instructions an edge | x86-64-v2 | x86-64-v3 | v3 : v2 |", "|---|---|---|---|"]
     for work, title in WORKS.items():
         (one, of_one), (other, of_other) = (of_an_edge(program, work) for program in programs)
         if of_one != of_other:
             sys.exit(f"count_processors.py: {work}: v2 gives {of_one}, and v3 {of_other}")
-        lines.append(f"| {title} | {one:.1f} | {other:.1f} | {other / one:.2f} |")
-        print(lines[-1], file=sys.stderr, flush=True)
-    return "\n".join(lines) + "\n"
+        row = (title, f"{one:.1f}", f"{other:.1f}", f"{other / one:.2f}")
+        print(figures.line_of(row), flush=True)
+        yield row
 
 
 def main():
@@ -70,18 +69,13 @@ def main():
     parser.add_argument("--write", action="store_true")
     parser.add_argument("libraries", metavar="V2 V3", nargs="*", type=pathlib.Path)
     options = parser.parse_args()
-    if options.write and not PLACE.search(PAGE.read_text()):
-        sys.exit(f"count_processors.py: {PAGE.name} has no place for the table: a line {BEGIN} and a line {END}")
     libraries = options.libraries or [TOP / "dist" / name for name in ("libedgebpf.s", "libedgebpf-v3.s")]
     if len(libraries) != 2:
         parser.error("two libraries are compared")
     with tempfile.TemporaryDirectory() as folder:
-        made = table(libraries, pathlib.Path(folder))
-    commit = output("git", "-C", TOP, "describe", "--always", "--dirty", "--abbrev=8", "--exclude", "*")[0].strip()
-    said = f"Counted on {datetime.date.today()}, commit {commit}.\n\n{made}"
-    print(said)
+        rows = list(counts(libraries, pathlib.Path(folder)))
     if options.write:
-        PAGE.write_text(PLACE.sub(lambda _: f"{BEGIN}\n{said}{END}", PAGE.read_text()))
+        figures.write("processors", HEADS, rows, figures.now(has_load=False))
 
 
 if __name__ == "__main__":

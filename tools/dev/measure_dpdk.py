@@ -1,15 +1,15 @@
 #!/usr/bin/python3
-"""Measures runs over edges by the library for x86-64-v2 and for x86-64-v3 beside native code and DPDK's interpreter and JIT, and writes a table.
+"""Measures runs over edges by the library for x86-64-v2 and for x86-64-v3 beside native code and DPDK's interpreter and JIT.
 
     tools/dev/measure_dpdk.py [--write] [--rounds 6]
 
 One program has all of these, and EDGEBPF_CPU names the variant: tools/dev/measure_runs.c. It runs by both variants in turn, and of each time the
 least counts. Instructions are counted by callgrind, over fewer edges, as a difference: of a program that does the work twice, less one that does
-it once. A second table says where these of x86-64-v3 are. --write puts both into docs/SPEED.md. It needs a processor with AVX2, valgrind, and libdpdk-dev.
+it once. A second table says where these of x86-64-v3 are. With --write the rows go into docs/figures/dpdk.txt and dpdk_places.txt. It needs a processor
+with AVX2, valgrind, and libdpdk-dev.
 """
 import argparse
 import collections
-import datetime
 import os
 import pathlib
 import re
@@ -17,10 +17,9 @@ import subprocess
 import sys
 import tempfile
 
+import figures
+
 TOP = pathlib.Path(__file__).resolve().parent.parent.parent
-PAGE = TOP / "docs" / "SPEED.md"
-BEGIN, END = "<!-- measured by tools/dev/measure_dpdk.py -->", "<!-- end of what was measured beside DPDK -->"
-PLACE = re.compile(re.escape(BEGIN) + ".*?" + re.escape(END), re.S)
 VARIANTS = "x86-64-v2", "x86-64-v3"
 # How many times the JIT's time the blocks of x86-64-v3 may take.
 PROGRAMS = {"two": ("two instructions", 1.5), "filter": ("a filter of 15 instructions", 1.5), "row": ("252 instructions in a row: sums and exclusive ors in turn", 0.9)}
@@ -28,7 +27,11 @@ PROGRAMS = {"two": ("two instructions", 1.5), "filter": ("a filter of 15 instruc
 COLUMNS = [
     ("edge-by-edge", "x86-64-v2"), ("blocks", "x86-64-v2"), ("blocks", "x86-64-v3"), ("sources", "x86-64-v2"), ("sources", "x86-64-v3"), ("native", None),
     ("interpreter", None), ("jit", None)]
-HEADS = "Edge by edge, v2", "Blocks, v2", "Blocks, v3", "Sources alone, v2", "Sources alone, v3", "Native code", "DPDK's interpreter", "DPDK's JIT"
+HEADS = (
+    "Program", "Edge by edge, v2", "Blocks, v2", "Blocks, v3", "Sources alone, v2", "Sources alone, v3", "Native code", "DPDK's interpreter", "DPDK's JIT",
+    "Blocks, v3 : JIT", "Sources alone", "Wanted")
+HEADS_OF_PLACES = (
+    "Instructions an edge, v3, sources alone", "In all", "Over the lanes of blocks", "Over vertices and edges", "With vectors of 32 bytes")
 COUNTED_EDGES = 1 << 17
 # The second table: the function that goes over the lanes of a block, the one that goes over vertices and edges, and the vectors of 32 bytes.
 SWEEP, WALK, WIDE = "bpf_blocks::sweeping::sweep", "edgebpf_c::columns::edgebpf_pull", "%ymm"
@@ -98,29 +101,24 @@ def executed(program, name, rounds):
 
 
 def places(program):
-    """Where the instructions of an edge are: in all, in the loops over lanes, over vertices and edges, and how many have vectors of 32 bytes."""
+    """The rows on where the instructions of an edge are: in all, in the loops over lanes, over vertices and edges, and how many have vectors of 32 bytes."""
     listing = output("objdump", "-d", "--no-show-raw-insn", program)[0]
     wide = {int(found[1], 16) for line in listing.splitlines() if WIDE in line and (found := CODE.match(line))}
-    lines = ["| Instructions an edge, v3, sources alone | In all | Over the lanes of blocks | Over vertices and edges | With vectors of 32 bytes |", "|---" * 5 + "|"]
     for name, (title, _) in PROGRAMS.items():
         counts = executed(program, name, 2)
         counts.subtract(executed(program, name, 1))
         parts = sum(counts.values()), *(sum(count for (function, _), count in counts.items() if function.startswith(of)) for of in (SWEEP, WALK))
         cells = [f"{count / COUNTED_EDGES:.1f}" for count in (*parts, sum(count for (_, place), count in counts.items() if place in wide))]
-        lines.append(f"| {title} | {' | '.join(cells)} |")
-    return "\n".join(lines) + "\n"
+        yield [title, *cells]
 
 
-def table(folder, rounds):
+def measured(folder, rounds, counting):
+    """The rows on times, and on instructions of a program for fewer edges."""
     found = times(build(folder, "measure"), rounds)
-    counting = build(folder, "count", f"-DEDGES={COUNTED_EDGES}")
-    lines = [f"| Program | {' | '.join(HEADS)} | Blocks, v3 : JIT | Sources alone | Wanted |", "|---" * (len(HEADS) + 4) + "|"]
     for name, (title, wanted) in PROGRAMS.items():
         cells = [f"{found[(name, *column)]:.2f}, {instructions(counting, name, *column):.0f}" for column in COLUMNS]
         ratios = [found[name, way, "x86-64-v3"] / found[name, "jit", None] for way in ("blocks", "sources")]
-        cells += [f"{ratio:.2f}" if ratio <= wanted else f"**{ratio:.2f}**" for ratio in ratios]
-        lines.append(f"| {title} | {' | '.join(cells)} | {wanted} |")
-    return "\n".join(lines) + "\n\n" + places(counting)
+        yield [title, *cells, *(f"{ratio:.2f}" for ratio in ratios), str(wanted)]
 
 
 def main():
@@ -128,17 +126,17 @@ def main():
     parser.add_argument("--write", action="store_true")
     parser.add_argument("--rounds", type=int, default=6)
     options = parser.parse_args()
-    if options.write and not PLACE.search(PAGE.read_text()):
-        sys.exit(f"measure_dpdk.py: {PAGE.name} has no place for the table: a line {BEGIN} and a line {END}")
-    before = os.getloadavg()[0]
-    with tempfile.TemporaryDirectory() as folder:
-        made = table(pathlib.Path(folder), options.rounds)
-    commit = output("git", "-C", TOP, "describe", "--always", "--dirty", "--abbrev=8", "--exclude", "*")[0].strip()
+    before, when = os.getloadavg()[0], figures.now(has_load=False)
+    with tempfile.TemporaryDirectory() as name:
+        folder = pathlib.Path(name)
+        counting = build(folder, "count", f"-DEDGES={COUNTED_EDGES}")
+        tables = ("dpdk", HEADS, list(measured(folder, options.rounds, counting))), ("dpdk_places", HEADS_OF_PLACES, list(places(counting)))
     dpdk, load = output("pkg-config", "--modversion", "libdpdk")[0].strip(), f"{before:.0f} before and {os.getloadavg()[0]:.0f} after"
-    said = f"Measured on {datetime.date.today()}, commit {commit}, DPDK {dpdk}, the least of {options.rounds} runs by each variant, load {load}.\n\n{made}"
-    print(said)
-    if options.write:
-        PAGE.write_text(PLACE.sub(lambda _: f"{BEGIN}\n{said}{END}", PAGE.read_text()))
+    of_times = f"{when}, DPDK {dpdk}, the least of {options.rounds} runs by each variant, load {load}"
+    for (name, heads, rows), said in zip(tables, (of_times, when)):
+        print(said, *map(figures.line_of, (heads, *rows)), sep="\n")
+        if options.write:
+            figures.write(name, heads, rows, said)
 
 
 if __name__ == "__main__":
