@@ -57,12 +57,11 @@ def forms(version, numpy, sparse):
 def measured(edges, tries):
     """Nanoseconds an edge of each form, and how many edges there are."""
     import edgebpf
-    import measure_algorithms
     import numpy
     import scipy.sparse
+    from algorithm_forms import graph_of
 
-    measure_algorithms.EDGES_OF_A_VERTEX = edges / (1 << SCALE)
-    sources, targets = measure_algorithms.graph_of(SCALE)
+    sources, targets = graph_of(SCALE, edges / (1 << SCALE))
     order = numpy.argsort(sources << SCALE | targets, kind="stable")
     starts = numpy.concatenate([[0], numpy.cumsum(numpy.bincount(sources, minlength=1 << SCALE))])
     version, least = edgebpf.Store.from_csr(starts, targets[order].astype(numpy.uint32)).pin(), {}
