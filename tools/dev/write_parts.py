@@ -233,7 +233,9 @@ def quote(pages, words):
     name, _, asked = words.partition(" ")
     heads, _, firsts = (part.strip() for part in asked.partition(" : "))
     wanted, firsts = heads.split(" | "), [first for first in firsts.split(" | ") if first]
-    known, rows = next((known, rows) for known, rows in tables_of((pages.TOP / name).read_text()) if set(wanted) <= set(known))
+    # As it will be, if it has made tables.
+    text = written(pages, (pages.TOP / name).read_text())
+    known, rows = next((known, rows) for known, rows in tables_of(text) if set(wanted) <= set(known))
     places = [known.index(head) for head in wanted]
     taken = [row for row in rows if not firsts or row[0].startswith(tuple(firsts))]
     if len(taken) < len(firsts):

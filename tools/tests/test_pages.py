@@ -179,6 +179,14 @@ class Parts(unittest.TestCase):
                 with self.assertRaises((LookupError, StopIteration)):
                     write_parts.quote(pages, wrong)
 
+    def test_a_quoted_table_that_is_made(self):
+        """It is quoted as it will be written, not as it stood."""
+        page = "<!-- made: figures one -->\n| A | B |\n|---|---|\n| old | 1 |\n<!-- end -->\n"
+        with tempfile.TemporaryDirectory() as folder, unittest.mock.patch.object(figures, "FIGURES", pathlib.Path(folder)):
+            pathlib.Path(folder, "page.md").write_text(page)
+            figures.write("one", ("A", "B"), [("new", "2")], "then")
+            self.assertEqual(write_parts.quote(unittest.mock.Mock(TOP=pathlib.Path(folder)), "page.md B | A")[3:-1], ["| 2 | new |"])
+
     def test_a_part_of_a_file_by_its_name(self):
         shown = write_parts.part(write_pages, "examples/refused.c data")
         self.assertEqual((shown[0], shown[1], shown[-1]), ("```c", "// no code: data", "```"))
