@@ -1,16 +1,18 @@
 #!/usr/bin/env python3
-"""Measures what programs made to cost most take to be verified: measure_verification.py [PROGRAM]
+"""Measures what programs made to cost most take to be verified: measure_verification.py [PROGRAM] [--write]
 
 A figure is CPU time and peak memory of the process that reads and verifies a script with one `program` block, the median and the most of some
-tries. Pairs are instructions, each counted once for each call of its function that is verified.
+tries. Pairs are instructions, each counted once for each call of its function that is verified. With --write the figures go into
+docs/figures/verification.txt.
 """
+import argparse
 import os
 import pathlib
 import re
 import statistics
 import subprocess
-import sys
 
+import figures
 from count_hubs import PROGRAM
 
 TRIES, CALLS, SLOTS, FUNCTIONS = 3, 300, 64, 8
@@ -49,13 +51,15 @@ def fan():
     return [*calls, "f7:", "mov r0, 0", "exit"]
 
 
+# What a row says, and its programs, which are of one size.
 ROWS = [
-    ("seven functions of six calls each, empty frames", fan()),
-    ("1,050 branches that part and meet again, 300 times, eight frames deep, full of addresses", deep([ADDRESS], CALLS, apart(1_050))),
-    ("2,950 branches on two registers to one place, the same", deep([ADDRESS], CALLS, ["jne r3, r4, out"] * 2_950)),
-    ("1,770 units that wait with eight full frames each", deep([ADDRESS], 1, waiting(1_770))),
-    ("the third with addresses and numbers in turn", deep([ADDRESS, NUMBER], CALLS, ["jne r3, r4, out"] * 2_950)),
-    ("the third with addresses, numbers and lone bytes", deep([ADDRESS, NUMBER, BYTE], CALLS, ["jne r3, r4, out"] * 2_950)),
+    ("{pairs:,} pairs: seven functions of six calls each, empty frames", fan()),
+    ("{pairs:,} pairs: 1,050 branches that part and meet again, 300 times, eight frames deep, full of addresses", deep([ADDRESS], CALLS, apart(1_050))),
+    ("{pairs:,} pairs: 2,950 branches on two registers to one place, 300 times, eight frames deep, full of addresses",
+     deep([ADDRESS], CALLS, ["jne r3, r4, out"] * 2_950)),
+    ("{units:,} units, of which 1,770 wait with eight full frames each", deep([ADDRESS], 1, waiting(1_770))),
+    ("the third with addresses and numbers in turn in each frame; with addresses, numbers and lone bytes",
+     deep([ADDRESS, NUMBER], CALLS, ["jne r3, r4, out"] * 2_950), deep([ADDRESS, NUMBER, BYTE], CALLS, ["jne r3, r4, out"] * 2_950)),
 ]
 
 
@@ -92,12 +96,32 @@ def measure(program, lines):
     return used.ru_utime + used.ru_stime, int(re.search(r"VmHWM:\s+(\d+) kB", status)[1]) * 1024, said
 
 
-def main():
-    program = sys.argv[1] if len(sys.argv) > 1 else PROGRAM
-    for what, lines in ROWS:
+def megabytes(memory):
+    return f"{memory / 1e6:.0f} MB" if memory >= 1e7 else f"{memory / 1e6:.1f} MB"
+
+
+def row(program, title, *texts):
+    """The cells of a row, which are printed with what the program said."""
+    times, most = [], 0
+    for lines in texts:
         seconds, memory, said = zip(*(measure(program, lines) for _ in range(TRIES)))
-        units = sum(not line.endswith(":") for line in lines)
-        print(f"{what}: {units:,} units, {pairs(lines):,} pairs, {statistics.median(seconds):.2f} s, {max(memory) / 1e6:.1f} MB; {said[0]}", flush=True)
+        times.append(f"{statistics.median(seconds):.2f} s")
+        most = max(most, *memory)
+        print(f"{said[0]}: {pairs(lines):,} pairs, {times[-1]}", flush=True)
+    units = sum(not line.endswith(":") for line in texts[0])
+    cells = title.format(pairs=pairs(texts[0]), units=units), f"{' and '.join(times)}, {megabytes(most)}"
+    print(figures.line_of(cells), flush=True)
+    return cells
+
+
+def main():
+    parser = argparse.ArgumentParser(description=__doc__, formatter_class=argparse.RawDescriptionHelpFormatter)
+    parser.add_argument("program", nargs="?", type=pathlib.Path, default=PROGRAM)
+    parser.add_argument("--write", action="store_true")
+    options = parser.parse_args()
+    rows = [row(options.program, *each) for each in ROWS]
+    if options.write:
+        figures.write("verification", ("Program", "CPU time, peak memory"), rows)
 
 
 if __name__ == "__main__":
