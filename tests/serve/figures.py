@@ -1,9 +1,12 @@
 #!/usr/bin/python3
-"""Measures a service, and prints rows of the table in docs/SERVICE.md.
+"""Measures a service, and prints the rows of the table in docs/SPEED.md.
 
-    tests/serve/figures.py --seconds 5
+    tests/serve/figures.py --seconds 5 [--write]
+
+With --write the rows go into docs/figures/service.txt.
 """
 import argparse
+import importlib.util
 import json
 import os
 import pathlib
@@ -17,9 +20,27 @@ from harness import Client, Error, Forks, folder, served
 from load import Connection, drive, request, share
 from model import KINDS
 
+TOP = pathlib.Path(__file__).resolve().parent.parent.parent
 VERTICES, EDGES, EDITS = 100_000, 500_000, 64
 BIG_VERTICES, BIG_EDGES, SMALL_BATCHES, FULL_BATCHES = 262_144, 4_000_000, 20_000, 16
 LONG = "mov r0, 0\n" + "add r0, 1\n" * 4000 + "exit"
+
+
+# The rows of the table in their order, by how they begin.
+ORDER = ("synced", "the same", "99 of 100", "a run over", "from a client", "the longest", "a start", "CPU time")
+
+
+def tables():
+    """tools/dev/figures.py, whose name is that of this file."""
+    found = importlib.util.spec_from_file_location("figures_of_documents", TOP / "tools" / "dev" / "figures.py")
+    module = importlib.util.module_from_spec(found)
+    found.loader.exec_module(module)
+    return module
+
+
+def digits(number):
+    """A number with a digit after its point where it is below ten."""
+    return f"{number:.1f}" if number < 10 else f"{number:,.0f}"
 
 
 def cpu(pid):
@@ -72,7 +93,12 @@ class Figures:
         self.options, self.rows = options, []
 
     def row(self, what, wanted, measured):
+        self.rows.append((what, wanted, measured))
         print(f"| {what} | {wanted} | {measured} |", flush=True)
+
+    def table(self):
+        """The rows in the order of the table, in which the one client comes after many."""
+        return sorted(self.rows, key=lambda row: next(place for place, begin in enumerate(ORDER) if row[0].startswith(begin)))
 
     def http(self):
         with folder() as place, Forks() as forks, served(forks, data=str(place / "graph"), vertices=VERTICES) as client:
@@ -92,8 +118,8 @@ class Figures:
         took = drive([Connection(port, requests) for requests in made], self.options.seconds)
         seconds = time.perf_counter() - begun
         rate, spent = len(took) / seconds, 1e3 * (cpu(pid) - before) / max(1, len(took))
-        self.row(f"synced batches of {EDITS} edits a second, {count} client{'s' * (count > 1)}", "3,000" if count == 64 else "",
-                 f"{rate:,.0f}; {spent:.2f} ms of CPU time each; half within {share(took, 0.5):.1f} ms, 99 of 100 within {share(took, 0.99):.0f}")
+        self.row(f"synced batches of {EDITS} edits a second, {count} clients" if count > 1 else "the same, one client", "3,000" if count > 1 else "",
+                 f"{rate:,.0f}; {digits(spent)} ms of CPU time each; half within {digits(share(took, 0.5))} ms, 99 of 100 within {share(took, 0.99):.0f}")
 
     def mixed(self, port):
         ending = threading.Event()
@@ -103,7 +129,7 @@ class Figures:
         took = drive([Connection(port, prepared(runs(random.Random(n), 16), 3_000)) for n in range(8)], self.options.seconds)
         ending.set()
         writers.join()
-        self.row("99 of 100 runs over 16 vertices, 8 clients beside 8 writers, within", "20 ms", f"{share(took, 0.99):.0f} ms; half {share(took, 0.5):.1f}; {len(took) / self.options.seconds:,.0f} a second")
+        self.row("99 of 100 runs over 16 vertices, 8 clients beside 8 writers, within", "20 ms", f"{share(took, 0.99):.0f} ms; half {digits(share(took, 0.5))}; {len(took) / self.options.seconds:,.0f} a second")
 
     def until(self, requests, ending):
         for one in requests:
@@ -114,17 +140,17 @@ class Figures:
     def single(self, pid, port, client):
         body = struct.pack("<200I", *range(200))
         kinds = {
-            "/healthz": [request("GET", "/healthz")] * 2000, "a run over 16 vertices": prepared(runs(random.Random(5), 16), 2000),
-            "a run over 200": prepared(runs(random.Random(8), 200), 1000), "neighbours": [request("GET", f"/neighbours/{u}") for u in range(VERTICES // 2, VERTICES // 2 + 2000)],
+            "health": [request("GET", "/healthz")] * 2000, "a run over 16 vertices": prepared(runs(random.Random(5), 16), 2000),
+            "over 200": prepared(runs(random.Random(8), 200), 1000), "neighbours": [request("GET", f"/neighbours/{u}") for u in range(VERTICES // 2, VERTICES // 2 + 2000)],
             "a number for each edge of 16 vertices": prepared(runs(random.Random(6), 16, path="/numbers"), 1000),
-            "pairs, 100": [request("POST", "/pairs?program=mutual", body)] * 1000,
+            "100 pairs": [request("POST", "/pairs?program=mutual", body)] * 1000,
         }
         told = []
         for name, requests in kinds.items():
             before = cpu(pid)
             took = drive([Connection(port, requests)], 30)
             told.append(f"{name} {1e3 * (cpu(pid) - before) / len(took):.2f}")
-        self.row("CPU time of the service for a request, one client, ms", "", "; ".join(told))
+        self.row("CPU time of one request, ms", "", "; ".join(told).replace("; over 200", ", over 200"))
 
     def beside_long(self, port, client):
         """Small runs beside a long one, and how soon that ends when its client leaves."""
@@ -159,8 +185,10 @@ class Figures:
                 pid = pid_of(forks)
                 spent, text = cpu(pid), client.ask("GET", "/metrics")[1].decode()
                 wall = [float(line.split()[1]) for line in text.splitlines() if line.startswith("edgebpf_recovery_seconds")][0]
-                self.row(f"a start with {BIG_EDGES:,} edges, {SMALL_BATCHES:,} small and {FULL_BATCHES} full batches after the snapshot", "2 s of CPU time",
-                         f"{spent:.1f} s of CPU time, without Python's modules; {wall:.1f} s by the clock; {since:,} batches")
+                small = round(since - FULL_BATCHES, -2)
+                self.row(f"a start with {BIG_EDGES:,} edges, {small:,} small and {FULL_BATCHES} full batches after the snapshot", "2 s of CPU time",
+                         f"{spent:.1f} s, without Python's modules")
+                print(f"that start took {wall:.1f} s by the clock")
 
     def pause(self, port, client):
         """The longest batch while snapshots are taken and rebases come, beside the longest without a snapshot."""
@@ -172,21 +200,30 @@ class Figures:
             return took
         without, beside = longest(False), longest(True)
         self.row("the longest batch while two snapshots of 4,000,000 edges are taken, one client", "50 ms",
-                 f"{share(beside, 1):.0f} ms, and {share(without, 1):.0f} without; 99 of 100 within {share(beside, 0.99):.0f} and {share(without, 0.99):.0f}")
+                 f"{share(beside, 1):.0f} ms, and {share(without, 1):.0f} without one")
+        print(f"99 of 100 of them within {share(beside, 0.99):.0f} ms, and {share(without, 0.99):.0f} without one")
 
 
 def main():
     parser = argparse.ArgumentParser(description=__doc__, formatter_class=argparse.RawDescriptionHelpFormatter)
     parser.add_argument("--seconds", type=float, default=5)
     parser.add_argument("--only", choices=("http", "recovery"))
+    parser.add_argument("--write", action="store_true")
     options = parser.parse_args()
-    print(f"load {os.getloadavg()[0]:.1f} on {os.cpu_count()} processors at the beginning")
+    if options.write and options.only:
+        parser.error("--write is for the whole table")
+    before = os.getloadavg()[0]
+    print(f"load {before:.1f} on {os.cpu_count()} processors at the beginning")
     print("| What | Wanted | Measured |\n|---|---|---|")
     figures = Figures(options)
     for name in ("http", "recovery"):
         if options.only in (None, name):
             getattr(figures, name)()
     print(f"load {os.getloadavg()[0]:.1f} at the end")
+    if options.write:
+        documents = tables()
+        when = f"{documents.now(has_load=False)}, load {before:.0f} before and {os.getloadavg()[0]:.0f} after"
+        documents.write("service", ("What", "Wanted", "Measured"), figures.table(), when)
 
 
 if __name__ == "__main__":

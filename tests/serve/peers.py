@@ -2,13 +2,15 @@
 """The same stream by a service, by SQLite in process, by PostgreSQL, and by networkx in process and in Flask, with equal answers: CPU time of
 each.
 
-    tests/serve/peers.py --edges 500000
+    tests/serve/peers.py --edges 500000 [--write]
 
 100,000 vertices and edges half by a power law; then batches of 64 edits, each synced but networkx's. Asked are: the edges that lead back of a
-batch's sources, those of all vertices, and the vertices within two steps.
+batch's sources, those of all vertices, and the vertices within two steps. With --write the times go into docs/figures/peers.txt, where those of a peer
+that is not here stay, and are said to be earlier.
 """
 import argparse
 import http.client
+import importlib.metadata
 import io
 import json
 import logging
@@ -22,7 +24,7 @@ import subprocess
 import sys
 import time
 
-from figures import EDITS, VERTICES, cpu, packed, pid_of, power_law
+from figures import EDITS, VERTICES, cpu, digits, packed, pid_of, power_law, tables
 from harness import Forks, folder, served
 from model import KINDS
 
@@ -39,6 +41,10 @@ try:
     import psycopg2
 except ImportError:
     psycopg2 = None
+
+
+# The rows of the table.
+WORKS = ("load all", "a batch", "edges that lead back, of its sources", "the same of all", "within two steps of a vertex")
 
 
 class Stream:
@@ -231,7 +237,7 @@ def done(answer):
 class Flasked:
     """The same over HTTP: a process with networkx in Flask, by one connection. Its CPU time is that of both processes."""
 
-    name = "networkx in Flask, nothing kept"
+    name = f"networkx in Flask {importlib.metadata.version('flask').rpartition('.')[0]}, nothing kept" if flask else ""
 
     def __init__(self, place):
         mine, its = multiprocessing.Pipe()
@@ -272,10 +278,10 @@ class Flasked:
 
 def measured(peer, stream):
     """CPU milliseconds of each kind of work, and the answers."""
-    spent, answers, begun = {}, [], peer.now()
+    spent, answers, begun = dict.fromkeys(WORKS, 0.0), [], peer.now()
+    load, edit, back, back_of_all, near = WORKS
     peer.load(stream.edges)
-    spent["load all"] = peer.now() - begun
-    kinds = {"a batch": 0.0, "edges that lead back, of its sources": 0.0, "within two steps of a vertex": 0.0}
+    spent[load] = peer.now() - begun
     for batch, asked, start in zip(stream.batches, stream.asked, stream.starts):
         marks = [peer.now()]
         peer.edit(batch)
@@ -284,11 +290,11 @@ def measured(peer, stream):
         marks.append(peer.now())
         answers.append(peer.near(start))
         marks.append(peer.now())
-        for name, first, last in zip(kinds, marks, marks[1:]):
-            kinds[name] += (last - first) / len(stream.batches)
+        for name, first, last in zip((edit, back, near), marks, marks[1:]):
+            spent[name] += (last - first) / len(stream.batches)
     begun = peer.now()
     answers.append(peer.back_of_all())
-    spent |= kinds | {"edges that lead back, of all": peer.now() - begun}
+    spent[back_of_all] = peer.now() - begun
     return {name: 1e3 * seconds for name, seconds in spent.items()}, answers
 
 
@@ -296,6 +302,7 @@ def main():
     parser = argparse.ArgumentParser(description=__doc__, formatter_class=argparse.RawDescriptionHelpFormatter)
     parser.add_argument("--edges", type=int, default=500_000)
     parser.add_argument("--batches", type=int, default=200)
+    parser.add_argument("--write", action="store_true")
     options = parser.parse_args()
     stream, found, before = Stream(options.edges, options.batches), {}, os.getloadavg()[0]
     with folder() as place:
@@ -312,8 +319,13 @@ def main():
         sys.exit("peers: the answers differ")
     print(f"load {before:.0f} and {os.getloadavg()[0]:.0f}; {len(answers[0])} answers of each, all equal")
     print(f"| CPU time, ms | {' | '.join(found)} |\n|---|{'---|' * len(found)}")
-    for name in next(iter(found.values()))[0]:
-        print(f"| {name} | {' | '.join(f'{spent[name]:,.1f}' for spent, _ in found.values())} |")
+    rows = {work: {name: digits(spent[work]) for name, (spent, _) in found.items()} for work in WORKS}
+    for work, cells in rows.items():
+        print(f"| {work} | {' | '.join(cells.values())} |")
+    if options.write:
+        documents = tables()
+        absent = [name for name in documents.read("peers")[1][1:] if name not in found]
+        documents.update("peers", rows, documents.now() + (f"; earlier: {'; '.join(absent)}" if absent else ""))
 
 
 if __name__ == "__main__":
