@@ -29,9 +29,9 @@ COLUMNS = [
     ("interpreter", None), ("jit", None)]
 HEADS = (
     "Program", "Edge by edge, v2", "Blocks, v2", "Blocks, v3", "Sources alone, v2", "Sources alone, v3", "Native code", "DPDK's interpreter", "DPDK's JIT",
-    "Blocks, v3 : JIT", "Sources alone", "Wanted")
-HEADS_OF_PLACES = (
-    "Instructions an edge, v3, sources alone", "In all", "Over the lanes of blocks", "Over vertices and edges", "With vectors of 32 bytes")
+    "Blocks, v3 : JIT", "Sources alone", "Wanted",
+)
+HEADS_OF_PLACES = ("Instructions an edge, v3, sources alone", "In all", "Over the lanes of blocks", "Over vertices and edges", "With vectors of 32 bytes")
 COUNTED_EDGES = 1 << 17
 # The second table: the function that goes over the lanes of a block, the one that goes over vertices and edges, and the vectors of 32 bytes.
 SWEEP, WALK, WIDE = "bpf_blocks::sweeping::sweep", "edgebpf_c::columns::edgebpf_pull", "%ymm"

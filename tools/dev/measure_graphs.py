@@ -28,7 +28,10 @@ LARGE = {"LiveJournal": (4_847_571, 69_000_000), "Orkut": (3_072_441, 234_000_00
 TARGET = "ldxw r0, [r1+4]\nexit"
 # How likely both ends are in the lower half, the source alone, and the source or the target alone.
 LOWER, SOURCE_LOWER, ONE_LOWER = 0.57, 0.76, 0.95
-HEADS = ("Graph", "Edges", "Store: bytes an edge, peak", "scipy: bytes an edge, peak", "To load, to scipy", "A run, to a product", "65,536 edits, to a sum", "One edit")
+HEADS = (
+    "Graph", "Edges", "Store: bytes an edge, peak", "scipy: bytes an edge, peak", "To load, to scipy", "A run, to a product", "65,536 edits, to a sum",
+    "One edit",
+)
 
 
 def drawn(chance, vertices, count):
