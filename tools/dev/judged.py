@@ -13,6 +13,8 @@ PLACE = r"(?: ?\[(\d+)\])?"
 # The head of a column may have the colon that stands between two rules.
 RULES = re.compile(r"(.*?[<>]=.*?)(?: : |$)")
 RULE = re.compile(rf"(.*?)(?:@ (.*?))?{PLACE} ([<>]=) ([\d.,]+)?(?: ?@ (.*?){PLACE})?")
+# After its point a limit has so many.
+DIGITS = 9
 
 
 def number(figure):
@@ -47,7 +49,8 @@ class Rule:
             return self.factor
         figures = [number(figure) for figure in FIGURE.findall(row[self.limit_column])]
         at = min((self.limit_place or place) - 1, len(figures) - 1)
-        return self.factor * figures[at] if figures else None
+        # As 1.4 times 0.02 is a little less than 0.028.
+        return round(self.factor * figures[at], DIGITS) if figures else None
 
     def is_missed(self, row, column, place, figure):
         """Whether a rule judges the figure at a place of a cell, and finds that it misses its limit."""

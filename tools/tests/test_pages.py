@@ -149,6 +149,7 @@ class Parts(unittest.TestCase):
             ("14 @ Here[2] <= @ Wanted[1] : @ Here [1] >= 31", [["**30**; 20", "0.6; 0.3"], ["**30**; **20**; 25", "0.6"], ["**30**", "9"]]),
         ):
             self.assertEqual([row[1:3] for row in write_parts.judged(heads, rows, words)], found, words)
+        self.assertEqual(write_parts.judged(["", "Here", "Peer"], [["a run", "0.028; 0.029", "0.02"]], "@ Here <= 1.4 @ Peer"), [["a run", "0.028; **0.029**", "0.02"]])
 
     def test_counts_grow(self):
         heads = ("Test", "Count", "Of them", "Last", "By")
