@@ -1,6 +1,8 @@
 """What a service does when its disk fails a sync, and when its client breaks off in the midst of all kinds of requests."""
 import asyncio
 import functools
+import gc
+import json
 import os
 import pathlib
 import random
@@ -180,6 +182,54 @@ class Connections(unittest.TestCase):
             client.batch([(0, 2)])
             self.assertEqual(next(events).rows, [(0, 3)])
             events.close()
+
+    def test_errors_of_no_route(self):
+        """What is no HTTP, expects what nobody does, or has no route, is answered by an error in the form of all others."""
+        line = b"GET /healthz HTTP/1.1\r\nHost: localhost\r\nConnection: close\r\n"
+        cases = [
+            (b"GETT / HTTP/1.1\r\n\r\n", 400, "BadRequest"), (b"GET /" + b"a" * 9_000 + b" HTTP/1.1\r\n\r\n", 400, "BadRequest"),
+            (line + b"Transfer-Encoding: chunked\r\n\r\nzz\r\n", 400, "BadRequest"),
+            (line + b"Expect: nothing\r\n\r\n", 417, "ExpectationFailed"), (line + b"Expect: \xff\r\n\r\n", 400, "BadRequest"),
+            (line.replace(b"/healthz", b"/none") + b"Expect: \xff\r\n\r\n", 400, "BadRequest"),
+            (line.replace(b"/healthz", b"/none") + b"\r\n", 404, "NotFound"), (line.replace(b"GET", b"PUT") + b"\r\n", 405, "MethodNotAllowed"),
+        ]
+        with folder() as place, Forks() as forks, served(forks, data=str(place / "graph"), vertices=VERTICES) as client:
+            for data, status, name in cases:
+                with self.subTest(data=data[:200]):
+                    head, _, body = self.ends(self.open(client, data)).partition(b"\r\n\r\n")
+                    told = json.loads(body)
+                    self.assertEqual((int(head.split()[1]), told["error"], set(told)), (status, name, {"error", "words"}))
+                    self.assertIn(b"Content-Type: application/json", head)
+
+    def test_hosts_that_are_none(self):
+        """A connection whose request has such an address is closed, and not held for ever."""
+        with folder() as place, Forks() as forks, served(forks, data=str(place / "graph"), vertices=VERTICES) as client:
+            for line in (b"GET http://xn--a/healthz", b"GET http://[::1/healthz", b"CONNECT /a\xff"):
+                with self.subTest(line=line):
+                    found = self.ends(self.open(client, line + b" HTTP/1.1\r\nHost: localhost\r\n\r\n"))
+                    self.assertIn(found[9:12], (b"", b"400"))
+
+    def test_clients_that_go_at_once(self):
+        """A connection that is lost before its request is looked at is no error."""
+        sys.path[:0] = [str(TOP / "tools"), str(TOP / "bindings" / "python")]
+        from aiohttp import web
+        from edgebpf_serve.connections import Connections
+
+        async def lost(turns):
+            faults = []
+            asyncio.get_running_loop().set_exception_handler(lambda _, context: faults.append(context["message"]))
+            made = Connections(web.Server(lambda request: None), 10, None)()
+            made.connection_made(unittest.mock.Mock(spec=asyncio.Transport))
+            for _ in range(turns):
+                await asyncio.sleep(0)
+            made.data_received(b"GET / HTTP/1.1\r\n\r\n")
+            made.connection_lost(None)
+            for _ in range(3):
+                await asyncio.sleep(0)
+            gc.collect()
+            return faults
+
+        self.assertEqual([asyncio.run(lost(turns)) for turns in range(3)], [[], [], []])
 
     def test_too_many_connections(self):
         with folder() as place, Forks() as forks, served(forks, data=str(place / "graph"), vertices=VERTICES, connections=5) as client:

@@ -948,6 +948,9 @@ class Ends(WithService):
             self.assertEqual({one["name"] for one in pairs["parameters"]}, {"version", "format", "program", "argument", "columns"})
             for one in (batches, pairs):
                 self.assertEqual(set(one["requestBody"]["content"]), {"application/json", "application/octet-stream"})
+            # The statuses of a query, a body, a Host and an Origin that are wrong.
+            for method, path, statuses in (("post", "/runs", {"400", "401", "403", "408", "413", "415"}), ("get", "/programs", {"400", "403"}), ("get", "/healthz", {"403"})):
+                self.assertLessEqual(statuses, set(told["paths"][path][method]["responses"]))
             text = client.ask("GET", "/metrics")[1].decode()
             counted = 'edgebpf_requests_total{route="/batches",status="200"} 1.0'
             for line in ("edgebpf_version 1.0", "edgebpf_edges 1.0", "edgebpf_sync_seconds_count 1.0", counted):

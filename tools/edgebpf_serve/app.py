@@ -144,16 +144,17 @@ def handled(service, route):
     return handle
 
 
-@web.middleware
-async def no_such_route(request, handler):
-    """The answers of requests that have no route."""
-    try:
-        return await handler(request)
-    except web.HTTPException as error:
-        response = answer_of(None, error)
-        if not request.content.is_eof():
-            response.force_close()
-        return response
+def without_route(handler):
+    """A handler of all requests, which answers those that come to no route: to a path that is none, or with an Expect that is none."""
+    async def handle(request):
+        try:
+            return await handler(request)
+        except (web.HTTPException, ValueError) as error:
+            response = answer_of(None, error)
+            if not request.content.is_eof():
+                response.force_close()
+            return response
+    return handle
 
 
 async def health(service, request, token):
@@ -197,7 +198,7 @@ def all_routes():
 
 
 def application(service):
-    app = web.Application(middlewares=[no_such_route], client_max_size=service.options.body)
+    app = web.Application(client_max_size=service.options.body)
     for route in all_routes():
         app.router.add_route(route.method, route.path, handled(service, route))
     return app
@@ -237,6 +238,8 @@ async def serve(disk, options, log, begun=lambda service, server: None):
     runner = web.AppRunner(application(service), access_log=None, keepalive_timeout=IDLE_SECONDS, lingering_time=LINGER_SECONDS,
                            auto_decompress=False)
     await runner.setup()
+    # A middleware would come after the answer to an Expect.
+    runner.server.request_handler = without_route(runner.server.request_handler)
     connections = Connections(runner.server, options.connections, service.meter)
     server = await listening(connections, options.listen)
     service.engine.start()

@@ -6,7 +6,34 @@ import resource
 import socket
 import time
 
+from aiohttp import web_protocol
+
 from edgebpf_serve.limits import HEAD_SECONDS, OTHER_FILES, SWEEP_SECONDS, UNREAD_SECONDS
+from edgebpf_serve.service import answer
+
+
+class Handler(web_protocol.RequestHandler):
+    """A connection of aiohttp's, whose own errors have the form of all others."""
+
+    __slots__ = ()
+
+    async def start(self):
+        try:
+            await super().start()
+        except Exception as error:
+            # The connection is lost before its request was looked at, or the whole address of that has a host that is none. It would be neither
+            # answered nor closed.
+            is_known = self.transport is None or isinstance(error, ValueError)
+            self.force_close()
+            if not is_known:
+                raise
+
+    def handle_error(self, request, status=500, exc=None, message=None):
+        """The answer to bytes that are no HTTP."""
+        super().handle_error(request, status, exc, message)
+        made = answer({"error": "BadRequest" if status == 400 else "Internal", "words": message or "this request cannot be answered"}, status)
+        made.force_close()
+        return made
 
 
 class Refusing(asyncio.Protocol):
@@ -36,7 +63,7 @@ class Connections:
         if len(self.server.connections) + len(self.coming) >= self.most:
             self.meter.refused.labels("connections").inc()
             return Refusing()
-        made = self.server()
+        made = Handler(self.server, loop=self.server._loop, **self.server._kwargs)
         self.headless[made] = time.monotonic()
         self.coming.append(made)
         return made

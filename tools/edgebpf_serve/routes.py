@@ -89,7 +89,7 @@ def described(route, has_tokens):
     parameters = [{"name": name, "in": "path", "required": True, "schema": WORDS} for name in names]
     parameters += [{"name": name, "in": "query", "schema": schema} for name, schema in (route.query_of(asked.BYTES) or {}).items()]
     parameters += [{"name": name, "in": "header", "schema": WORDS} for name in route.heads]
-    statuses = sorted({*route.statuses, *((401, 403) if route.role else ())})
+    statuses = sorted({*route.statuses, 400, 403, *((401,) if route.role else ()), *((408, 413, 415) if route.body is not None else ())})
     told = {"summary": route.words, "parameters": parameters, "responses": {str(status): {"description": STATUSES[status]} for status in statuses}}
     if route.body is not None:
         told["requestBody"] = {"content": {asked.JSON: {"schema": {"type": "object", "properties": route.body, "additionalProperties": False}}}}
