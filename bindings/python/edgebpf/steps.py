@@ -20,9 +20,10 @@ if TYPE_CHECKING:
     from edgebpf.native import Version
 
 # How long a step without a budget takes, about, and the most that it does however fast the one before was: the next edges may be others.
-# A unit takes 5 ns at most, but one that calls a helper, or a pair's search for its place, some hundreds.
+# Most units take 5 ns at most, and a division of 64 bits up to 20. One that calls a helper, or a pair's search for its place, takes some hundreds,
+# and numbers of columns that are in no cache may take as long.
 STEP_SECONDS = 0.01
-MOST_OF_A_STEP, MOST_WITH_HELPERS = 4_000_000, 300_000
+MOST_OF_A_STEP, MOST_WITH_HELPERS = 1_000_000, 300_000
 # The first such step expects so many units a second, fewer than any program does. Each later one takes the rate of the one before, if that
 # is not too many times the rate that was expected.
 FIRST_RATE, GROWTH = 1e7, 4
@@ -80,7 +81,7 @@ class Steps(KeptHere):
         self._at = version._calls.new(version._calls.progress)
         # What all steps had as budgets, of which `_at` has what is left.
         self._granted, self._rate = 0, FIRST_RATE
-        self._most = MOST_WITH_HELPERS if program._has_helpers else MOST_OF_A_STEP
+        self._most = MOST_WITH_HELPERS if program._has_helpers or inputs.columns else MOST_OF_A_STEP
 
     def __repr__(self) -> str:
         end = ", done" if self.done else ""

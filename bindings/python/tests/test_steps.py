@@ -331,12 +331,14 @@ class Steps(unittest.TestCase):
         self.assertEqual(asked, ["pull_some", "numbers_of", "numbers_of", "pairs_of"])
 
     def test_steps_without_a_budget(self):
-        """Each has a budget by the rate of the one before, and less where a unit may be a helper, or a pair's search."""
+        """Each has a budget by the rate of the one before, and less where a unit may be a helper, a pair's search, or numbers of columns."""
         helper = edgebpf.assemble("mov r1, 0\ncall 1\nexit")
+        column, lent = edgebpf.assemble("ldxdw r0, [r1+24]\nexit", record=32), [np.zeros(8, np.uint64)]
         self.assertEqual([program._has_helpers for program in (self.target, edgebpf.assemble(HOSTILE), helper, helper.share())], [False, False, True, True])
         for begin, most in (
             (lambda: self.version.begin(self.target), edgebpf.steps.MOST_OF_A_STEP), (lambda: self.version.begin(helper), edgebpf.steps.MOST_WITH_HELPERS),
             (lambda: self.version.begin_pairs(self.target, [0], [1]), edgebpf.steps.MOST_WITH_HELPERS),
+            (lambda: self.version.begin(column, columns=lent), edgebpf.steps.MOST_WITH_HELPERS),
         ):
             run, budgets = begin(), []
 
