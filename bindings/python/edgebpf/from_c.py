@@ -7,8 +7,10 @@ import pathlib
 import signal
 import subprocess
 import tempfile
+import threading
 import time
-from collections.abc import Sequence
+from collections.abc import Iterator, Sequence
+from typing import Any
 
 from edgebpf.errors import Error
 from edgebpf.limits import EDGE_BYTES
@@ -26,19 +28,51 @@ LIMITED = f'ulimit -v "$1" 2>/dev/null; ulimit -f {FILE_BYTES // 512} 2>/dev/nul
 SHORT_OF_MEMORY = ("out of memory", "bad_alloc", "MemoryError", "Cannot allocate memory", "failed to map segment")
 
 
+@contextlib.contextmanager
+def held() -> Iterator[None]:
+    """A Ctrl-C waits for the end of the block, where this thread is the one that hears it."""
+    before, waiting = signal.getsignal(signal.SIGINT), list[Any]()
+    if threading.current_thread() is not threading.main_thread() or not callable(before):
+        yield
+        return
+    signal.signal(signal.SIGINT, lambda *given: waiting.append(given))
+    try:
+        yield
+    finally:
+        signal.signal(signal.SIGINT, before)
+        if waiting:
+            before(*waiting[0])
+
+
+@contextlib.contextmanager
+def temporary_folder() -> Iterator[str]:
+    """A folder that is gone at the end of the block, also if this thread is interrupted."""
+    kept = None
+    try:
+        with held():
+            kept = tempfile.TemporaryDirectory(prefix="edgebpf-")
+        yield kept.name
+    finally:
+        with held():
+            if kept:
+                kept.cleanup()
+
+
 def ended(words: Sequence[str], folder: str, cwd: str | None, seconds: float) -> int | None:
     """The status of a command that writes `out` and `said` of a folder, where its temporary files are, too. None if its time was over. It
     and all that it started are gone then, and also if this thread is interrupted."""
-    environment = {**os.environ, "TMPDIR": folder}
-    with open(f"{folder}/out", "wb") as out, open(f"{folder}/said", "wb") as said:
-        process = subprocess.Popen(words, stdin=subprocess.DEVNULL, stdout=out, stderr=said, cwd=cwd, env=environment, start_new_session=True)
+    environment, process, status = {**os.environ, "TMPDIR": folder}, None, None
     try:
+        with held(), open(f"{folder}/out", "wb") as out, open(f"{folder}/said", "wb") as said:
+            process = subprocess.Popen(words, stdin=subprocess.DEVNULL, stdout=out, stderr=said, cwd=cwd, env=environment, start_new_session=True)
         is_over = has_ended(process.pid, time.monotonic() + seconds)
     finally:
-        # It leads the group of all that it started. The group has its number until the process is waited for.
-        with contextlib.suppress(ProcessLookupError):
-            os.killpg(process.pid, signal.SIGKILL)
-        status = process.wait()
+        with held():
+            if process:
+                # It leads the group of all that it started. The group has its number until the process is waited for.
+                with contextlib.suppress(ProcessLookupError):
+                    os.killpg(process.pid, signal.SIGKILL)
+                status = process.wait()
     return status if is_over else None
 
 
@@ -93,7 +127,7 @@ def compile_c(
     if path is not None and not isinstance(path, (str, bytes, os.PathLike)):
         raise TypeError(f"path is the name of a file, not {type(path).__name__}")
     record = record_of(record)
-    with tempfile.TemporaryDirectory(prefix="edgebpf-") as folder:
+    with temporary_folder() as folder:
         if text is not None:
             pathlib.Path(folder, "program.c").write_text(text, encoding="utf-8", errors="surrogatepass")
         name = "program.c" if path is None else os.fsdecode(path)

@@ -108,7 +108,8 @@ class Live(KeptHere):
             if self._since >= self._batches or self._edited >= self._edits:
                 self._forget()
             counts = self._store._edited(feed, *edits)
-            self._since, self._edited = self._since + 1, self._edited + len(edits[0])
+            # By the store's own number: a batch before, which an interrupt cut off once it was applied, was not counted here.
+            self._since, self._edited = counts.version, self._edited + len(edits[0])
             self._show()
             return dataclasses.replace(counts, version=self._before + self._since)
 

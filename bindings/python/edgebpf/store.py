@@ -223,8 +223,10 @@ class Store(KeptHere):
         with self._turn:
             if self._batches >= MOST_BATCHES:
                 raise LogFull(f"{MOST_BATCHES} batches were published since the last rebase")
+            # Before it is sent: an interrupt may come before it is counted.
+            self._last = None
             words, _ = self._process.ask(f"batch {feed}\n{''.join(lines)}end\n".encode())
-            self._batches += 1
+            self._batches = int(words[3])
         return Counts(int(words[3]), int(words[5]), int(words[7]))
 
     def rebase(self) -> int:
@@ -234,6 +236,7 @@ class Store(KeptHere):
         with self._turn:
             if self._epoch >= SERVED_EPOCHS:
                 raise EpochsFull(f"{SERVED_EPOCHS} rebases were made")
+            self._last = None
             words, _ = self._process.ask(b"rebase\n")
             self._epoch, self._batches = int(words[2]), 0
             return self._epoch
@@ -243,7 +246,7 @@ class Store(KeptHere):
         also of a version that was pinned before, once the process has ended."""
         with self._turn:
             last = self._last
-            if last is None or last[1:3] != (self._epoch, self._batches):
+            if last is None:
                 if self._pins >= MOST_KEPT:
                     raise TooManyNames(f"the process keeps at most {MOST_KEPT} pinned versions")
                 self._pins += 1

@@ -106,6 +106,28 @@ class Compiled(unittest.TestCase):
                 signal.signal(signal.SIGALRM, before)
             self.assertEqual((self.processes_of(folder), os.listdir(folder)), ([], []))
 
+    def test_interrupted_as_the_compiler_starts_and_ends(self):
+        """A Ctrl-C that comes while the compiler's process is started, or its folder is made or removed, is heard, and leaves neither."""
+        if shutil.which("clang") is None and shutil.which("clang-19") is None:
+            self.skipTest("not there: clang")
+        text = "#include <edgebpf.h>\nu64 f(struct edge *edge, u64 length) { return 7; }\n"
+        with tempfile.TemporaryDirectory() as folder, unittest.mock.patch.dict(os.environ, TMPDIR=folder), unittest.mock.patch("tempfile.tempdir", folder):
+            before = signal.signal(signal.SIGINT, signal.default_int_handler)
+            self.addCleanup(signal.signal, signal.SIGINT, before)
+            for name, call in (("subprocess.Popen", subprocess.Popen), ("os.mkdir", os.mkdir), ("os.rmdir", os.rmdir)):
+
+                def interrupted(*words, **options):
+                    if name == "os.rmdir":
+                        signal.raise_signal(signal.SIGINT)
+                    made = call(*words, **options)
+                    signal.raise_signal(signal.SIGINT)
+                    return made
+
+                with unittest.mock.patch(name, interrupted), self.assertRaises(KeyboardInterrupt):
+                    edgebpf.compile_c(text=text, function="f")
+                self.assertEqual((name, self.processes_of(folder), os.listdir(folder)), (name, [], []))
+            self.assertEqual(edgebpf.compile_c(text=text, function="f").bound, 2)
+
     def test_wrong_words_of_compile_c(self):
         text = "#include <edgebpf.h>\nu64 f(struct edge *edge, u64 length) { return 7; }\n"
         for words, error, given in (

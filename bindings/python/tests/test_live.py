@@ -65,6 +65,22 @@ class Live(unittest.TestCase):
             epochs.append((live.latest().epoch, live.latest().number))
         self.assertEqual(epochs, [(0, 1), (0, 2), (1, 1), (1, 2), (2, 1), (2, 2)])
 
+    def test_interrupted_after_a_batch_was_applied(self):
+        """Such a batch is in the graph, and all that come after it count it. Each puts one edge in, so the edges say how many there were."""
+        with edgebpf.Live(64, batches=4) as live:
+            for number in range(20):
+                edited = live._store._edited
+
+                def interrupted(*words):
+                    edited(*words)
+                    raise KeyboardInterrupt
+
+                with unittest.mock.patch.object(live._store, "_edited", interrupted), self.assertRaises(KeyboardInterrupt):
+                    live.apply([0], [number])
+                for target in range(number % 3):
+                    self.assertEqual(live.apply([1 + number], [target]).version, live.latest().edges)
+                    self.assertEqual(live.numbered()[0], live.latest().edges)
+
     def test_no_end(self):
         """There is no end to rebases."""
         live, edges = edgebpf.Live(5, batches=1), set()

@@ -23,7 +23,7 @@ from test_package import FOLDER, TARGET, TOP, edgebpf, np, told
 class Native(test_package.Package):
     # These are of a process, or of the package as it lies on disk.
     test_ended = test_killed = test_interrupted = test_cookbook = test_first_runs_at_once = None
-    test_interrupted_at_a_terminal = test_near_the_root = test_not_here = test_no_pin_of_a_process_that_has_ended = test_what_is_not_pickled = None
+    test_interrupted_after_an_answer = test_interrupted_at_a_terminal = test_near_the_root = test_not_here = test_no_pin_of_a_process_that_has_ended = test_what_is_not_pickled = None
 
     def store(self, vertices, workers=1):
         store = edgebpf.Store(vertices)

@@ -692,6 +692,22 @@ class Package(unittest.TestCase):
             with self.assertRaises(edgebpf.Closed):
                 ask()
 
+    def test_interrupted_after_an_answer(self):
+        """An interrupt between the answer to a batch or a rebase and the end of the call leaves no version before it for the last one."""
+        store = self.store(8)
+        ask = store._process.ask
+
+        def interrupted(*words):
+            ask(*words)
+            raise KeyboardInterrupt
+
+        for number, change in enumerate((lambda: store.batch("A", ([0], [1])), lambda: store.batch("A", ([2], [3])), store.rebase), 1):
+            store.pin()
+            with unittest.mock.patch.object(store._process, "ask", interrupted), self.assertRaises(KeyboardInterrupt):
+                change()
+            self.assertEqual((store.pin().number, store.pin().edges), (number % 3, min(number, 2)))
+        self.assertEqual((store.batch("B", ([4], [5])).version, store.pin().number, store.pin().edges), (1, 1, 3))
+
     def test_no_pin_of_a_process_that_has_ended(self):
         """Also if the version that was pinned last would be the one."""
         for end, words in ((lambda process: process.child.kill(), "^edgebpf has ended with status -9$"), (lambda process: process.close(), "^the store is closed$")):
