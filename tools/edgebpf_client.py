@@ -571,7 +571,11 @@ def perform():
     parser.add_argument("--argument", default="", metavar="HEX")
     parser.add_argument("--column", action="append", default=[], metavar="NAME", help="a column of a run; may be said again")
     parser.add_argument("--record", type=int, default=16, metavar="BYTES", help="the length of a program's record")
-    given = parser.parse_intermixed_args()
+    try:
+        given = parser.parse_intermixed_args()
+    except AttributeError as error:
+        # If it is interrupted as it begins, argparse puts this error in the place of the interrupt.
+        raise (error.__context__ if isinstance(error.__context__, KeyboardInterrupt) else error) from None
     least, most, call = COMMANDS[given.command]
     if not least <= len(given.words) <= (len(given.words) if most is None else most):
         parser.error(f"{given.command} takes {least} more words{' at least' if most is None else ''}; see --help")

@@ -681,6 +681,23 @@ class Backups(unittest.TestCase):
             backup.remove_drafts(place / "backups")
             self.assertEqual([path.name for path in place.iterdir()], ["backups"])
 
+    def test_a_draft_whose_removal_is_interrupted(self):
+        """It is removed nevertheless, and the interrupt is heard."""
+        sys.path[:0] = [str(TOP / "tools"), str(TOP / "bindings" / "python")]
+        from edgebpf_serve import backup
+        remove, told = shutil.rmtree, []
+
+        def interrupted(*words, **options):
+            told.append(words)
+            if len(told) == 1:
+                raise KeyboardInterrupt
+            remove(*words, **options)
+
+        with folder() as place:
+            with unittest.mock.patch("shutil.rmtree", interrupted), self.assertRaises(KeyboardInterrupt), backup.draft_of(place / "one") as made:
+                (made / "x").touch()
+            self.assertEqual(list(place.iterdir()), [])
+
     def test_drafts_that_come_and_go(self):
         """No draft is removed while its maker is about to lock it."""
         sys.path[:0] = [str(TOP / "tools"), str(TOP / "bindings" / "python")]

@@ -847,19 +847,23 @@ class Folders(WithService):
         with contextlib.closing(sqlite3.connect(self.data / "serve.db", isolation_level=None)) as db:
             db.execute("pragma journal_mode=delete")
             db.execute("begin exclusive")
-            words = [TOOLS / "edgebpf-serve", "backup", self.data, self.data.with_name("copy")]
-            # A shell may have started the tests to ignore the signal.
-            heard = {"preexec_fn": lambda: signal.signal(signal.SIGINT, signal.SIG_DFL)}
-            with subprocess.Popen(words, stdout=subprocess.PIPE, stderr=subprocess.PIPE, text=True, **heard) as run:
-                try:
-                    until = time.monotonic() + 60
-                    while not list(self.data.parent.glob(".copy.*")) and time.monotonic() < until:
-                        time.sleep(0.01)
-                    run.send_signal(signal.SIGINT)
-                    self.assertEqual((*run.communicate(timeout=60), run.returncode), ("", "edgebpf-serve: interrupted\n", 130))
-                finally:
-                    run.kill()
-        self.assertEqual([path.name for path in self.data.parent.iterdir()], [self.data.name])
+            for number, said in ((signal.SIGINT, "interrupted"), (signal.SIGTERM, "terminated"), (signal.SIGHUP, "the terminal was closed")):
+                self.interrupt_a_copy(number, said)
+                self.assertEqual([path.name for path in self.data.parent.iterdir()], [self.data.name])
+
+    def interrupt_a_copy(self, number, said):
+        words = [TOOLS / "edgebpf-serve", "backup", self.data, self.data.with_name("copy")]
+        # A shell may have started the tests to ignore the signal.
+        heard = {"preexec_fn": lambda: signal.signal(number, signal.SIG_DFL)}
+        with subprocess.Popen(words, stdout=subprocess.PIPE, stderr=subprocess.PIPE, text=True, **heard) as run:
+            try:
+                until = time.monotonic() + 60
+                while not list(self.data.parent.glob(".copy.*")) and time.monotonic() < until:
+                    time.sleep(0.01)
+                run.send_signal(number)
+                self.assertEqual((*run.communicate(timeout=60), run.returncode), ("", f"edgebpf-serve: {said}\n", 128 + number))
+            finally:
+                run.kill()
 
     def test_folders_that_cannot_be_served(self):
         with self.served():

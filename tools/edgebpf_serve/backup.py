@@ -68,15 +68,20 @@ def _remove_left(folder, name):
 @contextlib.contextmanager
 def draft_of(target):
     """A new folder beside a target, for the time of a block, which holds a lock in it: two may make the same copy at once."""
-    with contextlib.ExitStack() as holds:
-        with _alone_in(target.parent):
-            _remove_left(target.parent, glob.escape(target.name))
-            draft = target.parent / f".{target.name}.{secrets.token_hex(8)}.draft"
-            # First of all, so that an interrupt leaves none.
-            holds.callback(shutil.rmtree, draft, ignore_errors=True)
-            draft.mkdir(mode=0o700)
-            holds.enter_context(_held(draft, os.O_RDWR | os.O_CREAT))
-        yield draft
+    draft = target.parent / f".{target.name}.{secrets.token_hex(8)}.draft"
+    try:
+        with contextlib.ExitStack() as holds:
+            with _alone_in(target.parent):
+                _remove_left(target.parent, glob.escape(target.name))
+                draft.mkdir(mode=0o700)
+                holds.enter_context(_held(draft, os.O_RDWR | os.O_CREAT))
+            yield draft
+    finally:
+        try:
+            shutil.rmtree(draft, ignore_errors=True)
+        finally:
+            # An interrupt may have cut that off. No other one comes after it.
+            shutil.rmtree(draft, ignore_errors=True)
 
 
 @contextlib.contextmanager

@@ -21,6 +21,7 @@ from edgebpf_serve.limits import HELP, NO_ROOM_YET, ROLES, RUN_LIMITS, TOKEN_LIM
 from edgebpf_serve.rows import Damaged
 from edgebpf_serve.service import is_near
 from edgebpf_serve.tokens import add, change, drop, read
+from edgebpf_tools import ends
 
 USAGE = """a graph over HTTP that keeps on disk what it acknowledged
 
@@ -240,13 +241,12 @@ def main_copy(words, name):
 
 def main():
     words = sys.argv[1:]
-    try:
-        if words[:1] == ["token"]:
-            main_token(words[1:])
-        elif words[:1] in (["backup"], ["restore"], ["check"]):
-            main_copy(words[1:], words[0])
-        else:
-            main_serve(words)
-    except KeyboardInterrupt:
-        # of a copy or a recovery: a service ends by itself
-        stop("interrupted", 130)
+    if words[:1] in (["token"], ["backup"], ["restore"], ["check"]):
+        # Nothing of a copy is left. A service may be killed at any moment: its next start removes what it left.
+        ends.handle(ends.Signals.take)
+    if words[:1] == ["token"]:
+        main_token(words[1:])
+    elif words[:1] in (["backup"], ["restore"], ["check"]):
+        main_copy(words[1:], words[0])
+    else:
+        main_serve(words)

@@ -3,6 +3,7 @@ import re
 import shutil
 import subprocess
 
+from edgebpf_tools import owned
 from edgebpf_tools.clang_words import with_help
 from edgebpf_tools.opaque_indices import opaque
 from edgebpf_tools.refusal import Refusal, needs_package
@@ -41,11 +42,11 @@ def compile_to_bpf(source, target, folders, optimization=OPTIMIZATION, has_opaqu
         # A name that does not end in .c would be one of another language.
         file_words = ["-x", "c", source]
         # With -O1 clang would note of each loop that it is not to be unrolled.
-        ir = _run([*common, "-O2" if optimization == "-O1" else optimization, *TO_IR, *folder_words, *file_words, "-o", "-"])
+        ir = said_by([*common, "-O2" if optimization == "-O1" else optimization, *TO_IR, *folder_words, *file_words, "-o", "-"])
         if ir.returncode == 0:
             unrolled = ir.stdout.replace(LOOP_NOTE, UNROLLED_NOTE)
             code = opaque(unrolled) if has_opaque_indices else unrolled
-            made = _run([*common, optimization, *TO_CODE, "-x", "ir", "-", "-o", target], code)
+            made = said_by([*common, optimization, *TO_CODE, "-x", "ir", "-", "-o", target], code)
             if made.returncode == 0:
                 return ir.stderr + made.stderr
             raise Refusal(f"clang made no code of {source}:\n{with_help(made.stderr)}")
@@ -54,8 +55,9 @@ def compile_to_bpf(source, target, folders, optimization=OPTIMIZATION, has_opaqu
     raise Refusal(f"clang refused {source}:\n{with_help(ir.stderr)}")
 
 
-def _run(command, text=None):
-    return subprocess.run(command, input=text, capture_output=True, text=True, errors="surrogateescape")
+def said_by(command, text=None):
+    """What a command writes and says for a text, and its status."""
+    return owned.finished(command, text, stdout=subprocess.PIPE, stderr=subprocess.PIPE, errors="surrogateescape")
 
 
 def lines_of(object_file):
@@ -63,7 +65,7 @@ def lines_of(object_file):
     objdump = newest("llvm-objdump")
     if objdump is None:
         return {}
-    run = subprocess.run([objdump, "-d", "-l", object_file], capture_output=True, text=True, errors="surrogateescape")
+    run = said_by([objdump, "-d", "-l", object_file])
     lines, section, line = {}, None, None
     for text in run.stdout.splitlines():
         if found := re.match(r"Disassembly of section (\S+):", text):
@@ -81,7 +83,7 @@ def type_of_result(object_file, function):
     dwarfdump = newest("llvm-dwarfdump")
     if dwarfdump is None:
         return None
-    run = subprocess.run([dwarfdump, object_file], capture_output=True, text=True, errors="surrogateescape")
+    run = said_by([dwarfdump, object_file])
     entries, entry = {}, {}
     for text in run.stdout.splitlines():
         if found := re.match(r"(0x[0-9a-f]+):\s+(DW_TAG_\w+)", text):

@@ -4,7 +4,6 @@ import os
 import pathlib
 import re
 import sys
-import tempfile
 
 from edgebpf_tools import clang, columns, ends, explain, owned, tables
 from edgebpf_tools.c_words import CWords
@@ -163,7 +162,7 @@ def perform(words):
     if options.file.startswith("-"):
         # clang would take it for an option.
         options.file = os.path.join(".", options.file)
-    with tempfile.TemporaryDirectory() as folder:
+    with owned.folder() as folder:
         try:
             objects, entry, program = linked(options, folder)
         except OSError as error:

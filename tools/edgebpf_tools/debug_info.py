@@ -1,9 +1,8 @@
 """Which variable of C a register holds, from what clang notes for debuggers, as far as llvm-dwarfdump is there and knows."""
 import re
-import subprocess
 from dataclasses import dataclass, field
 
-from edgebpf_tools.clang import newest
+from edgebpf_tools.clang import newest, said_by
 
 SCOPES = ("subprogram", "inlined_subroutine", "lexical_block")
 RANGE = re.compile(r"\[(0x[0-9a-f]+), (0x[0-9a-f]+)\): DW_OP_reg(\d+) W\d+\)?$")
@@ -39,7 +38,7 @@ def _entries(object_file):
     dwarfdump = newest("llvm-dwarfdump")
     if dwarfdump is None:
         return
-    run = subprocess.run([dwarfdump, object_file], capture_output=True, text=True, errors="surrogateescape")
+    run = said_by([dwarfdump, object_file])
     entry = None
     for text in run.stdout.splitlines():
         if found := re.match(r"0x[0-9a-f]+:\s+DW_TAG_(\w+)", text):

@@ -69,11 +69,11 @@ def begin(program, numbers=SIGNALS):
     signal.pthread_sigmask(signal.SIG_UNBLOCK, {signal.SIGINT})
 
 
-def run(program, perform, failed=FAILED):
+def run(program, perform, failed=FAILED, handler=Signals.take, numbers=SIGNALS):
     """Has `perform` do what the words of the command line say, and ends the process with the status that it returns. Any other
-    end is one line on standard error and the status `failed`, or 128 plus the number of a signal."""
+    end is one line on standard error and the status `failed`, or 128 plus the number of a signal, of which these raise."""
     try:
-        handle(Signals.take)
+        handle(handler, numbers)
         status = performed(program, perform, failed)
     except KeyboardInterrupt as interrupt:
         number = getattr(interrupt, "number", signal.SIGINT)

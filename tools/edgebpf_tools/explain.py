@@ -33,7 +33,7 @@ def explain(length, code=None, text=None, is_asked_for=False, table=None):
     words = [str(length)] + ([] if code is None else [code]) + ([] if table is None else ["--table", table])
     environment = dict(os.environ) if is_asked_for else {"EDGEBPF_PROVED": "elsewhere", **os.environ}
     try:
-        run = subprocess.run([*command(), *words], input=text or "", stdout=subprocess.PIPE, text=True, env=environment)
+        run = owned.finished([*command(), *words], text or "", stdout=subprocess.PIPE, env=environment)
     except OSError as error:
         raise Refusal(f"{error.filename}: {error.strerror}") from None
     return run.stdout, run.returncode

@@ -65,6 +65,21 @@ def child(command, **options):
                 _stop(process)
 
 
+def finished(command, text=None, **options):
+    """What a process writes and says for a text, and its status, once it has ended; as `subprocess.run`, but that a signal which comes while it
+    starts leaves none. It stays in the group of this one: whoever kills that means both."""
+    process, given = None, None if text is None else subprocess.PIPE
+    try:
+        with ends.Signals.held():
+            process = subprocess.Popen(command, stdin=given, text=True, **options)
+        written, said = process.communicate(text)
+        return subprocess.CompletedProcess(command, process.returncode, written, said)
+    finally:
+        with ends.Signals.held():
+            if process:
+                _stop(process)
+
+
 @contextlib.contextmanager
 def _terminal_for_all():
     """What is started in the block may write to the terminal from outside of its group, also after `stty tostop`."""
@@ -79,6 +94,7 @@ def _stop(process):
     if process.poll() is None:
         with contextlib.suppress(OSError):
             os.killpg(process.pid, signal.SIGKILL)
+        process.kill()
     for stream in (process.stdin, process.stdout, process.stderr):
         with contextlib.suppress(OSError):
             if stream:

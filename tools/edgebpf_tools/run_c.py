@@ -4,7 +4,7 @@ import subprocess
 import sys
 from dataclasses import dataclass, field
 
-from edgebpf_tools import columns, decimals, store
+from edgebpf_tools import columns, decimals, owned, store
 from edgebpf_tools.limits import COLUMN_BYTES, EDGE_BYTES, MOST_LINE_BYTES
 from edgebpf_tools.refusal import Refusal
 from edgebpf_tools.words import in_words
@@ -102,7 +102,7 @@ def serve(graph, run, workers):
     """Serves the graph and the run by one process. Returns what it writes, and its status."""
     words = store.command() + ([] if workers is None else ["--workers", str(workers)])
     try:
-        served = subprocess.run(words, input="\n".join([graph, *run.lines, ""]), stdout=subprocess.PIPE, text=True)
+        served = owned.finished(words, "\n".join([graph, *run.lines, ""]), stdout=subprocess.PIPE)
     except OSError as error:
         raise Refusal(f"{error.filename}: {error.strerror}") from None
     return served.stdout, served.returncode

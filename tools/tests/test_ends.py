@@ -1,5 +1,6 @@
 """How the companions end if they cannot write, read or go on, or if a signal asks them to: with one line and a status, and nothing
 stays behind."""
+import contextlib
 import importlib.util
 import os
 import pathlib
@@ -16,6 +17,25 @@ HAS_NUMPY = importlib.util.find_spec("numpy") is not None
 STORE = str(TOOLS / "tests" / "second_store.py")
 EDGES = "".join(f"{vertex} {vertex + 1}\n" for vertex in range(200_000))
 TARGET = "#include <edgebpf.h>\nu64 target(struct edge *edge, u64 length) { return edge->target; }\n"
+# edgebpf-c, to which a signal comes with the first call of a name.
+SENT_TO_ITSELF = """
+import os, signal, subprocess, sys
+sys.path.insert(0, {tools!r})
+from edgebpf_tools import ends
+ends.begin("edgebpf-c")
+from edgebpf_tools.compile_c import main
+call = {name}
+
+def interrupted(*words, **options):
+    if {comes_first}:
+        signal.raise_signal({number})
+    made = call(*words, **options)
+    signal.raise_signal({number})
+    return made
+
+{name} = interrupted
+main()
+"""
 HELPS = ("edgebpf-c", "edgebpf-client", "edgebpf-explain", "edgebpf-import", "edgebpf-shell", "edgebpf-spread", *["edgebpf-serve"] * HAS_SERVICE)
 
 
@@ -144,6 +164,47 @@ class Ends(unittest.TestCase):
                 self.assertIn((run.returncode, said), [(-2, ""), (130, f"{name}: interrupted\n"), (0, "")])
                 told.add((name, run.returncode))
         self.assertGreaterEqual(len([name for name, status in told if status == 130]), 4)
+
+    @unittest.skipUnless(HAS_SERVICE, "not there: what edgebpf-serve needs")
+    def test_a_service_that_is_interrupted_before_its_command_begins(self):
+        code = (
+            f"import runpy, signal, sys; sys.path.insert(0, {str(TOOLS)!r}); from edgebpf_tools import ends;"
+            "ends._open_standard_files = lambda: signal.raise_signal(signal.SIGINT);"
+            f"sys.argv[0] = {str(TOOLS / 'edgebpf-serve')!r}; runpy.run_path(sys.argv[0], run_name='__main__')"
+        )
+        run = subprocess.run([PYTHON, "-c", code, "check", self.folder / "none"], capture_output=True, text=True)
+        self.assertEqual((run.returncode, run.stdout, run.stderr), (130, "", "edgebpf-serve: interrupted\n"))
+
+    def test_a_client_that_is_interrupted_while_it_reads_its_words(self):
+        """argparse has an error of its own then, which would be a traceback."""
+        code = (
+            f"import argparse, signal, sys; sys.path.insert(0, {str(TOOLS)!r}); import edgebpf_client; from edgebpf_tools import ends;"
+            "argparse.ArgumentParser.format_usage = lambda self: signal.raise_signal(signal.SIGTERM);"
+            "ends.run('edgebpf-client', lambda words: edgebpf_client.perform())"
+        )
+        run = subprocess.run([PYTHON, "-c", code, "run", "target"], capture_output=True, text=True)
+        self.assertEqual((run.returncode, run.stdout, run.stderr), (143, "", "edgebpf-client: terminated\n"))
+
+    @unittest.skipIf(MISSING, f"not there: {MISSING}")
+    def test_signals_as_a_compiler_and_a_folder_begin_and_end(self):
+        """One that comes while clang is started, or the temporary folder is made or removed, leaves neither."""
+        (self.folder / "short.c").write_text(TARGET)
+        (self.folder / "long.c").write_text(TARGET.replace("{", "{ u64 sum = 0; A(A(A(A(A(A(A(sum += 1;)))))))").replace("\n", "\n#define A(x) x x x x x x x x\n", 1))
+        for name, source, comes_first in (("subprocess.Popen", "long.c", False), ("os.mkdir", "short.c", False), ("os.rmdir", "short.c", True)):
+            for number, word in ((signal.SIGINT, "interrupted"), (signal.SIGTERM, "terminated")):
+                code = SENT_TO_ITSELF.format(name=name, number=int(number), comes_first=comes_first, tools=str(TOOLS))
+                run = subprocess.run([PYTHON, "-c", code, self.folder / source, "16"], capture_output=True, text=True, env=self.environment)
+                self.assertEqual((run.returncode, run.stderr), (128 + number, f"edgebpf-c: {word}\n"), (name, run.stderr))
+                self.assertEqual((list((self.folder / "temporary").iterdir()), self.processes()), ([], []), name)
+
+    def processes(self):
+        """The words of the processes whose temporary files would be in this test's folder."""
+        found = []
+        for process in pathlib.Path("/proc").glob("[0-9]*"):
+            with contextlib.suppress(OSError):
+                if f"TMPDIR={self.folder}/temporary".encode() in (process / "environ").read_bytes():
+                    found.append((process / "cmdline").read_bytes())
+        return found
 
     @unittest.skipUnless(HAS_NUMPY, "not there: python3-numpy")
     def test_signals_at_any_moment(self):
