@@ -3,7 +3,7 @@ import contextlib
 import time
 
 import numpy as np
-from edgebpf_serve import asked, disk, engine, graph, service, standing
+from edgebpf_serve import asked, disk, engine, graph, standing
 from edgebpf_serve.limits import REMOVE
 
 
@@ -104,13 +104,6 @@ def sync_normal():
     disk.PRAGMAS = tuple(line.replace("synchronous=full", "synchronous=normal") for line in disk.PRAGMAS)
 
 
-def body_cut():
-    """Of a body that comes in parts the first one is taken for all."""
-    async def collected(self, request, most):
-        return await request.content.readany()
-    service.Service._collected = collected
-
-
 def field_missing():
     """A field that a request does not have is looked up as if it had it."""
     asked.text_of = lambda fields, name, otherwise=None: fields[name]
@@ -147,7 +140,7 @@ def memory_gone():
 # The loop that has to find each mistake.
 MISTAKES = {
     "seen_early": "crash_loop", "answered_early": "crash_loop", "ids_forgotten": "crash_loop", "newest_taken": "crash_loop", "rebase_loses": "crash_loop",
-    "snapshot_not_synced": "power_loss", "sync_normal": "power_loss", "body_cut": "fuzz_requests", "field_missing": "fuzz_requests",
+    "snapshot_not_synced": "power_loss", "sync_normal": "power_loss", "field_missing": "fuzz_requests",
 }
 
 

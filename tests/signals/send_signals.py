@@ -3,10 +3,10 @@
 
     send_signals.py [--uses WORD ..] [--signals INT TERM HUP KEY TWICE PIPE STOP] [--moments 100]
 
-KEY is SIGINT to the whole group of processes, as a terminal sends it, and TWICE sends that again some milliseconds later. PIPE is no signal: who reads standard output closes it. STOP stops the group
-for some milliseconds; the program has to go on as if nothing was. Each start has its own folders. It has to end in time, with the status and the words
-that the documents name, standard output a beginning of what it writes else, each file whole or absent, and with no process and no temporary file
-left. `uses.py` has the programs. It ends with status 1 if one did otherwise.
+KEY is SIGINT to the whole group of processes, as a terminal sends it, and TWICE sends that again some milliseconds later. PIPE is no signal: who
+reads standard output closes it. STOP stops the group for some milliseconds; the program has to go on as if nothing was. Each start has its own
+folders. It has to end in time, with the status and the words that the documents name, standard output a beginning of what it writes else, each file
+whole or absent, and with no process and no temporary file left. `uses.py` has the programs. It ends with status 1 if one did otherwise.
 """
 import argparse
 import collections
