@@ -36,7 +36,7 @@ def provers(top):
     """The prover's processes: their number with the time of their start, their crate, whether they try an edit, and the seconds used."""
     for folder in pathlib.Path("/proc").glob("[0-9]*"):
         try:
-            words = (folder / "cmdline").read_text().split("\0")
+            words = (folder / "cmdline").read_text(errors="replace").split("\0")
             if "--crate-name" not in words or not words[0].endswith("/rattle"):
                 continue
             if top is not None and not is_below(int(folder.name), top):
