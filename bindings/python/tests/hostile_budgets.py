@@ -136,7 +136,7 @@ def column_of(vertices, number):
 GRAPHS = ("dense", "hub", "few edges", "one each", "scattered", "wide", "homes")
 WORKS = ("run", "numbers", "pairs", "push")
 FRONTIERS = ("range", "array", "at random")
-MOST_PAIRS = 1 << 20
+PAIRS_OF_A_DRAW = 1 << 20
 
 
 @dataclasses.dataclass
@@ -161,7 +161,7 @@ class Asked:
             return version.begin_numbers(given.program, chosen, columns=columns)
         if self.work == "push":
             return version.begin_push(given.program, frontier=chosen, columns=columns, into=np.zeros(version.vertices, np.uint64))
-        ends = np.random.default_rng(6).integers(0, version.vertices, (2, MOST_PAIRS), dtype=np.uint32)
+        ends = np.random.default_rng(6).integers(0, version.vertices, (2, PAIRS_OF_A_DRAW), dtype=np.uint32)
         return version.begin_pairs(given.program, *ends, columns=columns)
 
     def __str__(self):
